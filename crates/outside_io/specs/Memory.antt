@@ -1,8 +1,8 @@
 -- What a source and a sink in memory show: their bytes, and which of their calls fail.
-use Rattle.std.specs.Prelude.{ℕ, ◌+◌, ◌-◌, ◌^◌, min, List, [], Bool, true, false, Contains}
+use Rattle.std.specs.Prelude.{ℕ, ◌+◌, ◌-◌, ◌^◌, min, List, Bool, true, false, Contains}
 
--- the calls so far: how many were made, which is the number of the next one, the numbers of those that
--- are to fail, and how many failed; both counts stand still at 2^64 - 1
+-- the calls so far: how many were made, which is the number of the next one, the numbers of those
+-- that are to fail, and how many failed; both counts stand still at 2^64 - 1
 pub record Calls : Type 0 where
   pub made : ℕ
   pub failing : List ℕ
@@ -33,5 +33,7 @@ counted n = min (n + 1) (2 ^ 64 - 1)
 
 -- the calls after one more, which failed or not
 abbrev pub after_call : Calls → Bool → Calls
-after_call calls true = record { made = counted calls.made; failing = calls.failing; faults = counted calls.faults }
-after_call calls false = record { made = counted calls.made; failing = calls.failing; faults = calls.faults }
+after_call calls true =
+    record { made = counted calls.made; failing = calls.failing; faults = counted calls.faults }
+after_call calls false =
+    record { made = counted calls.made; failing = calls.failing; faults = calls.faults }

@@ -12,6 +12,8 @@ mod source;
 mod std_sink;
 mod std_source;
 mod sure_source;
+#[cfg(test)]
+mod tests;
 mod unread;
 
 pub use gate::{Gate, OpenGate, Point};

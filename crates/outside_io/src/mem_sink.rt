@@ -62,11 +62,14 @@ impl Sink for MemSink {
     fn put(&mut self, piece: &[u8]) -> Result<usize, Failed>
         requires { 0 < length piece.now }
         ensures bound { TakesSome result piece.now }
-        ensures bytes { WriteAppends (Some self.old.written) (Some self.new.written) result piece.now }
+        ensures bytes { WriteAppends (Some self.old.written) (Some self.new.written) result
+            piece.now }
         ensures cause { HasCause self.old.calls.faults self.new.calls.faults result }
 
-        ensures most { IfOk result (λ n. n ≡ min (length piece.now) (self.old.room - length self.old.written)) }
-        ensures fails { IsErr result ↔ (IsListed self.old.calls ⊎ (self.old.room ≤ length self.old.written)) }
+        ensures most { IfOk result
+            (λ n. n ≡ min (length piece.now) (self.old.room - length self.old.written)) }
+        ensures fails { IsErr result ↔
+            (IsListed self.old.calls ⊎ (self.old.room ≤ length self.old.written)) }
         ensures calls { self.new.calls ≡ after_call self.old.calls (is_err result) }
         ensures room { self.new.room ≡ self.old.room }
     {

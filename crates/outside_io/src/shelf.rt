@@ -1,4 +1,4 @@
-ghost use Rattle.std.specs.Prelude.{ℕ, ◌≤◌, ◌≡◌};
+ghost use Rattle.std.specs.Prelude.{ℕ, ◌≤◌, ◌≡◌, IsOk};
 ghost use Rattle.outside_io.specs.Cause.{Rose};
 
 use std::alloc::Global;
@@ -19,17 +19,20 @@ pub trait Shelf {
     /// Names the folder, which every later call is about.
     fn place(&mut self, folder: &str) -> Result<(), ShelfFault>
         ensures kept { faults self.old ≤ faults self.new }
-        ensures cause { result ≡ Err ShelfFault.Failed → Rose (faults self.old) (faults self.new) };
+        ensures cause { result ≡ Err ShelfFault.Failed →
+            Rose (faults self.old) (faults self.new) };
 
     /// The bytes of the file, or `None` where there is none.
     fn get(&mut self, alloc: Global, name: &str) -> Result<Option<Vec<u8>>, ShelfFault>
         ensures kept { faults self.old ≤ faults self.new }
-        ensures cause { result ≡ Err ShelfFault.Failed → Rose (faults self.old) (faults self.new) };
+        ensures cause { result ≡ Err ShelfFault.Failed →
+            Rose (faults self.old) (faults self.new) };
 
     /// Writes the file.
     fn put(&mut self, name: &str, bytes: &[u8]) -> Result<(), ShelfFault>
         ensures kept { faults self.old ≤ faults self.new }
-        ensures cause { result ≡ Err ShelfFault.Failed → Rose (faults self.old) (faults self.new) };
+        ensures cause { result ≡ Err ShelfFault.Failed →
+            Rose (faults self.old) (faults self.new) };
 }
 
 /// A shelf that is never placed: it has no file, and takes none.
@@ -37,19 +40,23 @@ pub trait Shelf {
 pub struct NoShelf;
 
 impl Shelf for NoShelf {
-    ghost use Rattle.std.specs.Prelude.{OnOk};
-
     ghost faults = { λ _. 0 };
 
-    fn place(&mut self, _folder: &str) -> Result<(), ShelfFault> {
+    fn place(&mut self, _folder: &str) -> Result<(), ShelfFault>
+        ensures { IsOk result }
+    {
         Ok(())
     }
 
-    fn get(&mut self, _alloc: Global, _name: &str) -> Result<Option<Vec<u8>>, ShelfFault> {
+    fn get(&mut self, _alloc: Global, _name: &str) -> Result<Option<Vec<u8>>, ShelfFault>
+        ensures { result ≡ Ok None }
+    {
         Ok(None)
     }
 
-    fn put(&mut self, _name: &str, _bytes: &[u8]) -> Result<(), ShelfFault> {
+    fn put(&mut self, _name: &str, _bytes: &[u8]) -> Result<(), ShelfFault>
+        ensures { IsOk result }
+    {
         Ok(())
     }
 }

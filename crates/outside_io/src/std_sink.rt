@@ -41,7 +41,8 @@ impl<W: Write> Sink for StdSink<W> {
         ensures cause { HasCause (write_faults self.old) (write_faults self.new) result }
 
         // Where the writer tells its bytes, they grew by those that were taken.
-        ensures passed { WriteAppends (W.contents (writer_of self.old)) (W.contents (writer_of self.new)) result piece.now }
+        ensures passed { WriteAppends (W.contents (writer_of self.old))
+            (W.contents (writer_of self.new)) result piece.now }
     {
         match self.writer.write(piece) {
             Ok(0) | Err(_) => {

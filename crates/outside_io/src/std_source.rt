@@ -38,7 +38,8 @@ impl<R: Read> Source for StdSource<R> {
         ensures cause { HasCause (read_faults self.old) (read_faults self.new) result }
 
         // Where the reader tells its bytes, they are those that it had left.
-        ensures passed { ReadConsumes (R.remaining (reader_of self.old)) (R.remaining (reader_of self.new)) result buf.new }
+        ensures passed { ReadConsumes (R.remaining (reader_of self.old))
+            (R.remaining (reader_of self.new)) result buf.new }
     {
         match self.reader.read(buf) {
             Ok(count) => Ok(count),
