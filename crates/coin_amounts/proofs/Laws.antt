@@ -33,13 +33,13 @@ amount_fits (b ∷ bs) n is =
     subst (λ k. k < 2 ^ 128) fits.1 below
 
 -- what a coin that was read by itself is
-record IsRead (raw : RawCoin) (coin : Coin) : Type 0 where
-  denom : IsDenom coin.denom
-  positive : 0 < coin.amount
-  bounded : coin.amount < 2 ^ 128
-  same : coin ≡ coin_of raw
+pub record IsRead (raw : RawCoin) (coin : Coin) : Type 0 where
+  pub denom : IsDenom coin.denom
+  pub positive : 0 < coin.amount
+  pub bounded : coin.amount < 2 ^ 128
+  pub same : coin ≡ coin_of raw
 
-above_zero : (n : ℕ) → eqb n 0 ≡ false → 0 < n
+pub above_zero : (n : ℕ) → eqb n 0 ≡ false → 0 < n
 above_zero zero differs = cc
 above_zero (suc n) differs = omega arith
 
@@ -65,17 +65,17 @@ with_denom : (place : ℕ) (raw : RawCoin) (coin : Coin) (fault : CoinsFault) (n
 with_denom place raw coin fault false named is = cc
 with_denom place raw coin fault true named is = with_amount place raw coin _ named refl is
 
-read_alone : (place : ℕ) (raw : RawCoin) (coin : Coin) → coin_at place raw ≡ Ok coin → IsRead raw coin
+pub read_alone : (place : ℕ) (raw : RawCoin) (coin : Coin) → coin_at place raw ≡ Ok coin → IsRead raw coin
 read_alone place raw coin is = with_denom place raw coin (DenomBad place) _ refl is
 
 -- what the coins that were read so far are
-record AreRead (coins : List Coin) : Type 0 where
-  positive : IsPositive coins
-  bounded : All (λ coin. coin.amount < 2 ^ 128) coins
-  denoms : All (λ coin. IsDenom coin.denom) coins
-  rising : IsRising (fold put_by_denom [] coins)
+pub record AreRead (coins : List Coin) : Type 0 where
+  pub positive : IsPositive coins
+  pub bounded : All (λ coin. coin.amount < 2 ^ 128) coins
+  pub denoms : All (λ coin. IsDenom coin.denom) coins
+  pub rising : IsRising (fold put_by_denom [] coins)
 
-none_are_read : AreRead []
+pub none_are_read : AreRead []
 unfolding IsStrictlySortedBy
 none_are_read = record {
   positive = All-nil (λ coin. 0 < coin.amount);
@@ -96,9 +96,9 @@ one_more_is_read coins raw coin all one new =
     }
 
 -- the coins with those of more raw coins
-record Goes (start : List Coin) (raws : List RawCoin) (coins : List Coin) : Type 0 where
-  read : AreRead coins
-  same : coins ≡ start ++ map coin_of raws
+pub record Goes (start : List Coin) (raws : List RawCoin) (coins : List Coin) : Type 0 where
+  pub read : AreRead coins
+  pub same : coins ≡ start ++ map coin_of raws
 
 pushed : (start : List Coin) (raw : RawCoin) (coin : Coin) (next : List Coin) (fault : CoinsFault) (twice : Bool) → AreRead start → IsRead raw coin → list_any (λ other. bytes_eq coin.denom other.denom) start ≡ twice → cond twice (Err fault) (Ok (start ++ coin ∷ [])) ≡ Ok next → Goes start (raw ∷ []) next
 pushed start raw coin next fault true all one new is = cc
@@ -119,7 +119,7 @@ stays_faulty fault raws coins is =
     let stuck = fold_stays with_next (Err fault) (λ raw. refl) raws in
     cc
 
-all_read : (start : List Coin) (raws : List RawCoin) (coins : List Coin) → AreRead start → fold with_next (Ok start) raws ≡ Ok coins → Goes start raws coins
+pub all_read : (start : List Coin) (raws : List RawCoin) (coins : List Coin) → AreRead start → fold with_next (Ok start) raws ≡ Ok coins → Goes start raws coins
 all_read start [] coins all is =
     let it_is : start ≡ coins = cc in
     record { read = subst AreRead it_is all; same = sym it_is ∙ sym (append-nil start) }

@@ -1,7 +1,7 @@
 -- A few texts and lists of coins, with what they are.
 use Rattle.std.specs.Prelude.{◌≡◌, ℕ, ◌-◌, ◌^◌, List, [], ◌∷◌, Some, None, Ok, Err, codes, refl, true, false}
 use Rattle.std.specs.Fmt.{digits}
-use Rattle.coin_amounts.specs.declared.read.CoinsFault.TheVariants.{DenomBad, AmountBad, AmountZero, DenomTwice}
+use Rattle.coin_amounts.specs.declared.read.CoinsFault.TheVariants.{DenomBad, AmountZero, DenomTwice}
 use Rattle.coin_amounts.specs.Plain.{Coin, RawCoin}
 use Rattle.coin_amounts.specs.Amount.{amount_of}
 use Rattle.coin_amounts.specs.Denom.{is_denom}

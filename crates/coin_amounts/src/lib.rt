@@ -6,11 +6,13 @@ mod coin;
 mod coins;
 mod denom;
 mod read;
+#[cfg(test)]
+mod tests;
 mod text;
 
 pub use amount::{AmountBad, read_amount};
 pub use coin::{Coin, RawCoin};
 pub use coins::Coins;
 pub use denom::is_denom;
-pub use read::{CoinsFault, coins_are_lawful, read_coins};
+pub use read::{CoinsFault, coins_are_lawful, faults_come_first, read_coins};
 pub use text::coins_text;

@@ -1,5 +1,6 @@
 ghost use Rattle.std.specs.Prelude.{◌≡◌, map, IfOk, IfErr};
 ghost use Rattle.coin_amounts.specs.Plain.{coin_view, raw_coin_view};
+ghost use Rattle.coin_amounts.specs.Fault.{FaultsComeFirst};
 ghost use Rattle.coin_amounts.specs.Entry.{coin_from};
 ghost use Rattle.coin_amounts.specs.Coins.{coins_view, coin_at, coins_of, IsFaultOf, CoinsAreLawful};
 
@@ -90,4 +91,9 @@ fn read_coin(alloc: Global, place: usize, raw: &RawCoin) -> Result<Coin, CoinsFa
 /// 2^128, and they are the coins of the list in another order.
 pub fn coins_are_lawful()
     ensures { CoinsAreLawful }
+{}
+
+/// What a fault says: the coins before its place can be read, and the coin there is wrong in that way.
+pub fn faults_come_first()
+    ensures { FaultsComeFirst }
 {}
