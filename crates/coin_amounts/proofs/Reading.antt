@@ -1,5 +1,5 @@
 -- The coins that were read so far, as the entries of a map from denoms to amounts.
-use Rattle.std.proofs.Common.{◌≡◌, ℕ, ◌+◌, ◌<◌, Bool, true, false, cond, ◌||◌, List, [], ◌∷◌, ◌++◌, length, take, get_or, map, fold, Option, Some, None, Result, Ok, Err, is_some, String, Global, string_bytes, string_cmp, bytes_eq, Ordering, refl, sym, ap, ◌∙◌, arith}
+use Rattle.std.proofs.Common.{◌≡◌, ℕ, ◌+◌, ◌<◌, Bool, true, false, cond, ◌||◌, List, [], ◌∷◌, ◌++◌, length, take, get_or, map, fold, Option, Some, None, Result, Ok, Err, IsErr, is_err, ◌≢◌, is_some, String, Global, string_bytes, string_cmp, bytes_eq, Ordering, refl, sym, ap, ◌∙◌, arith}
 use Rattle.std.specs.Ordering.{is_gt, is_eq, match_ordering}
 use Rattle.std.specs.declared.cmp.Ordering.TheVariants.{Less, Equal, Greater}
 use Rattle.std.specs.List.{list_any}
@@ -78,7 +78,7 @@ module _ (raws : List RawCoin) (place : ℕ) (es : List (String Global × ℕ)) 
   ended : (fault : CoinsFault) → with_next (coins_in_place (take place raws)) (get_or raws place raw) ≡ Err fault → coins_of raws ≡ Err fault
   ended fault is = ap by_denom (sym (fold_stuck with_next (Err fault) (λ r. refl) (Ok []) raws place raw within is))
 
-  pub read_faults : (fault : CoinsFault) → coin_at place raw ≡ Err fault → coins_of raws ≡ Err fault
+  read_faults : (fault : CoinsFault) → coin_at place raw ≡ Err fault → coins_of raws ≡ Err fault
   read_faults fault found = ended fault (stepped (Err fault) found)
 
   same_denoms : (k : String Global) → is_some (lookup (is_at (string_cmp k)) es) ≡ list_any (λ other. bytes_eq (string_bytes k) other.denom) so_far.coins
@@ -86,7 +86,7 @@ module _ (raws : List RawCoin) (place : ℕ) (es : List (String Global × ℕ)) 
       let test = λ (other : Coin). bytes_eq (string_bytes k) other.denom in
       is_some-denom es k ∙ ap (list_any test) so_far.kept ∙ sym (list_any-IsPermutation test _ _ (IsPermutation-put_all so_far.coins))
 
-  pub read_twice : (k : String Global) (v : ℕ) → coin_at place raw ≡ Ok (entry_view (k, v)) → is_some (lookup (is_at (string_cmp k)) es) ≡ true → coins_of raws ≡ Err (DenomTwice place)
+  read_twice : (k : String Global) (v : ℕ) → coin_at place raw ≡ Ok (entry_view (k, v)) → is_some (lookup (is_at (string_cmp k)) es) ≡ true → coins_of raws ≡ Err (DenomTwice place)
   read_twice k v found had =
       let twice : with_coin so_far.coins (Ok (entry_view (k, v))) ≡ Err (DenomTwice (length so_far.coins)) = rw (sym (same_denoms k) ∙ had) refl in
       ended (DenomTwice place) (stepped _ found ∙ twice ∙ ap (λ n. Err (DenomTwice n)) so_far.places)
@@ -111,9 +111,34 @@ pub listed_all : (raws : List RawCoin) (place : ℕ) (es : List (String Global �
 listed_all raws place es list so_far at_end is = reads_all raws place es so_far at_end ∙ ap Ok (sym (ap (map coin_view) is ∙ map-map coin_view coin_from es))
 
 -- a fault that leads to another outcome's fault
-pub IsFaultOf-leads : {T U : Type 0} (fault : CoinsFault) (x : Result T CoinsFault) (y : Result U CoinsFault) → ((f : CoinsFault) → x ≡ Err f → y ≡ Err f) → IsFaultOf fault x → IsFaultOf fault y
+IsFaultOf-leads : {T U : Type 0} (fault : CoinsFault) (x : Result T CoinsFault) (y : Result U CoinsFault) → ((f : CoinsFault) → x ≡ Err f → y ≡ Err f) → IsFaultOf fault x → IsFaultOf fault y
 IsFaultOf-leads NoMemory x y leads is = tt
 IsFaultOf-leads (DenomBad n) x y leads is = leads (DenomBad n) is
 IsFaultOf-leads (AmountBad n) x y leads is = leads (AmountBad n) is
 IsFaultOf-leads (AmountZero n) x y leads is = leads (AmountZero n) is
 IsFaultOf-leads (DenomTwice n) x y leads is = leads (DenomTwice n) is
+
+IsErr-from_fault : {T : Type 0} (fault : CoinsFault) (outcome : Result T CoinsFault) → IsFaultOf fault outcome → fault ≢ NoMemory → IsErr outcome
+IsErr-from_fault NoMemory outcome is other = absurd (other refl)
+IsErr-from_fault (DenomBad n) outcome is other = ap is_err is
+IsErr-from_fault (AmountBad n) outcome is other = ap is_err is
+IsErr-from_fault (AmountZero n) outcome is other = ap is_err is
+IsErr-from_fault (DenomTwice n) outcome is other = ap is_err is
+
+-- what reading the list gives where the coin at this place can't be read, in both forms
+pub record Faults (fault : CoinsFault) (list : List raw_type.RawCoin) : Type 0 where
+  pub of_list : IsFaultOf fault (coins_of (map raw_coin_view list))
+  pub refuses : fault ≢ NoMemory → IsErr (coins_of (map raw_coin_view list))
+
+module _ (list : List raw_type.RawCoin) (place : ℕ) (es : List (String Global × ℕ)) (so_far : ReadsSoFar (map raw_coin_view list) place es) (raw : raw_type.RawCoin) (within : place < length list) (is_here : raw ≡ get_or list place raw) where
+  faults : (fault : CoinsFault) → IsFaultOf fault (coins_of (map raw_coin_view list)) → Faults fault list
+  faults fault is = record { of_list = is; refuses = IsErr-from_fault fault _ is }
+
+  pub faults_alone : (fault : CoinsFault) → IsFaultOf fault (coin_at place (raw_coin_view raw)) → Faults fault list
+  faults_alone fault is =
+      let leads = read_faults (map raw_coin_view list) place es so_far (raw_coin_view raw) (length-raw list place within) (raw_at list place raw within is_here) in
+      faults fault (IsFaultOf-leads fault _ _ leads is)
+
+  pub faults_twice : (k : String Global) (v : ℕ) → coin_at place (raw_coin_view raw) ≡ Ok (entry_view (k, v)) → is_some (lookup (is_at (string_cmp k)) es) ≡ true → Faults (DenomTwice place) list
+  faults_twice k v found had =
+      faults (DenomTwice place) (read_twice (map raw_coin_view list) place es so_far (raw_coin_view raw) (length-raw list place within) (raw_at list place raw within is_here) k v found had)

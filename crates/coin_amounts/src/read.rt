@@ -1,4 +1,4 @@
-ghost use Rattle.std.specs.Prelude.{◌≡◌, map, IfOk, IfErr};
+ghost use Rattle.std.specs.Prelude.{◌≡◌, ◌≢◌, map, IfOk, IfErr, IsErr};
 ghost use Rattle.coin_amounts.specs.Plain.{coin_view, raw_coin_view};
 ghost use Rattle.coin_amounts.specs.Fault.{FaultsComeFirst};
 ghost use Rattle.coin_amounts.specs.Entry.{coin_from};
@@ -49,6 +49,7 @@ impl<T: Drop> From<AllocFailed<T>> for CoinsFault {
 pub fn read_coins(alloc: Global, list: &[RawCoin]) -> Result<Coins, CoinsFault>
     ensures ok { IfOk result (λ coins. coins_of (map raw_coin_view list.now) ≡ Ok (coins_view coins)) }
     ensures err { IfErr result (λ fault. IsFaultOf fault (coins_of (map raw_coin_view list.now))) }
+    ensures refused { IfErr result (λ fault. fault ≢ CoinsFault.NoMemory → IsErr (coins_of (map raw_coin_view list.now))) }
 {
     let mut amounts = BTreeMap::new(alloc);
     for (place, raw) in list.iter().enumerate() {
