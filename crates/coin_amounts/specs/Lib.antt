@@ -1,0 +1,9 @@
+pub mod Amount
+pub mod Coins
+pub mod Denom
+pub mod Entry
+pub mod Examples
+pub mod Fault
+pub mod Order
+pub mod Plain
+pub mod Text
