@@ -1,0 +1,36 @@
+use Rattle.std.proofs.Common.{◌+◌, ap, arith}
+use Rattle.line_protocol.specs.Progress.{kept, number, size}
+use Rattle.line_protocol.proofs.Handing.{line_fed, lines_rest, taken_size, bad_fed, stops_rest, bad_at, TakesUnfed-drawn}
+use Rattle.line_protocol.proofs.lines.Lines.next.Goals as goal
+
+pub returns-in-Ok-clause-line : goal.returns-in-Ok-clause-line
+returns-in-Ok-clause-line g c =
+    let found = rw c.in-Fed.is at c.in_ok-at.ensures.found in
+    let line = c.in-Ok.ensures in
+    line_fed _ _ _ _ _ _ c.in-Fed.at _ c.in_ok-at.ensures.draws found.0 found.1 found.2 line.text line.kept
+    (omega (arith, line.size, c.in_ok-at.ensures.behind.size))
+
+pub returns-in-Err-clause-bad : goal.returns-in-Err-clause-bad
+returns-in-Err-clause-bad g c =
+    let found = rw c.in-Fed.is at c.in_ok-at.ensures.found in
+    let behind = c.in_ok-at.ensures.behind in
+    bad_at _ _ behind.size (ap (λ n. n + 1) behind.number)
+    (bad_fed _ _ _ _ (size c.gather.new.self) c.in-Fed.at (number c.gather.new.self + 1) c.in-Err.stop c.in_ok-at.ensures.draws found.0 found.1 found.2 c.in-Err.ensures.err)
+
+pub returns-in-Rest-clause-line : goal.returns-in-Rest-clause-line
+returns-in-Rest-clause-line g c =
+    let found = rw c.in-Rest.is at c.in_ok-at.ensures.found in
+    let line = c.last_line.ensures in
+    lines_rest c.last_line.result _ _ _ (kept c.gather.new.self) _ _ c.in_ok-at.ensures.draws (c.in_ok-at.ensures.end found.0) found.1 line.some line.text line.kept
+    (taken_size c.last_line.result _ _ _ _ c.in_ok-at.ensures.behind.size line.size)
+
+pub returns-in-Rest-clause-bad : goal.returns-in-Rest-clause-bad
+returns-in-Rest-clause-bad g c =
+    let found = rw c.in-Rest.is at c.in_ok-at.ensures.found in
+    let behind = c.in_ok-at.ensures.behind in
+    rw (← behind.size, ← behind.number)
+    (stops_rest c.last_line.result _ _ _ (kept c.gather.new.self) (size c.gather.new.self) (number c.gather.new.self + 1) c.in_ok-at.ensures.draws (c.in_ok-at.ensures.end found.0) found.1
+    c.last_line.ensures.refused c.last_line.ensures.err)
+
+pub returns-in-Over-clause-unfed : goal.returns-in-Over-clause-unfed
+returns-in-Over-clause-unfed g c = λ is. TakesUnfed-drawn _ _ _ _ _ c.in_ok-at.ensures.draws (c.overlong.ensures.unfed cc)
