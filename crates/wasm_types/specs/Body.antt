@@ -19,19 +19,22 @@ use Rattle.wasm_types.specs.Types.{val_type, val_type_of}
 abbrev pub max_locals : ℕ
 max_locals = 4096
 
--- the number of locals of a group, behind so many
-abbrev pub group_size : ℕ → Part ℕ
-group_size before = judged Locals (λ n. nat_le (before + n) max_locals) index
+-- a number of locals and their type, behind so many locals
+unfoldable pub group : ℕ → Part (List ValType)
+group before = do
+  n ← judged Locals (λ n. nat_le (before + n) max_locals) index
+  t ← val_type
+  done (replicate n t)
 
 abbrev pub AreGroups : ℕ → ℕ → List ℕ → List ValType → Type 0
 AreGroups zero before text types = (text ≡ []) × (types ≡ [])
 AreGroups (suc groups) before text types =
-    Joins (group_size before).Spells (λ n. Joins val_type.Spells (λ t. Joins (AreGroups groups (before + n)) (λ others rest all. (rest ≡ []) × (all ≡ replicate n t ++ others)))) text types
+    Joins (group before).Spells (λ own. Joins (AreGroups groups (before + length own)) (λ others rest all. (rest ≡ []) × (all ≡ own ++ others))) text types
 
 unfoldable pub groups_read : ℕ → ℕ → Place → Reading (List ValType)
 groups_read zero before start = Ok ([], start)
 groups_read (suc groups) before start =
-    then_read ((group_size before).read start) (λ n behind. then_read (val_type.read behind) (λ t after. then_read (groups_read groups (before + n) after) (λ others end. Ok (replicate n t ++ others, end))))
+    then_read ((group before).read start) (λ own after. then_read (groups_read groups (before + length own) after) (λ others end. Ok (own ++ others, end)))
 
 abbrev pub groups_of : ℕ → Part (List ValType)
 groups_of groups = record { Spells = AreGroups groups 0; read = groups_read groups 0 }
@@ -43,20 +46,15 @@ locals = do
 
 -- ---- one instruction, with `end` and `els` still open, and the labels that it adds to the code's targets
 
--- An `else` may stand only in an `if` that has none yet. So for each block that is open, the innermost first, it is kept whether
--- an `else` may come.
-abbrev pub may_else : List Bool → Bool
-may_else [] = false
-may_else (o ∷ blocks) = o
-
-abbrev pub nested : List Bool → ℕ → Result Shape ReadKind → Result (ℕ × Shape) ReadKind
-nested blocks op (Ok shapes.Else) = if may_else blocks then Ok (op, shapes.Else) else Err Nesting
-nested blocks op (Ok s) = Ok (op, s)
-nested blocks op (Err why) = Err why
+-- an `else` may stand only in an `if` that has none yet
+abbrev pub nested : Bool → ℕ → Result Shape ReadKind → Result (ℕ × Shape) ReadKind
+nested may_else op (Ok shapes.Else) = if may_else then Ok (op, shapes.Else) else Err Nesting
+nested may_else op (Ok s) = Ok (op, s)
+nested may_else op (Err why) = Err why
 
 -- where a body ends and an instruction is wanted, it is the nesting that is wrong
-unfoldable pub opcode : List Bool → Part (ℕ × Shape)
-opcode blocks = byte_or Nesting (λ b. nested blocks b (shape b))
+unfoldable pub opcode : Bool → Part (ℕ × Shape)
+opcode may_else = byte_or Nesting (λ b. nested may_else b (shape b))
 
 abbrev pub block_type_of : ℕ → Result (Option ValType) ReadKind
 block_type_of b = if b == 0x40 then Ok None else one_result (val_type_of b)
@@ -119,14 +117,14 @@ operands first op shapes.If = do
 operands first op shapes.Else = done (Else 0, [])
 operands first op shapes.End = done (End, [])
 
-unfoldable pub instr : ℕ → List Bool → Part (Instr × List ℕ)
-instr first blocks = do
-  o ← opcode blocks
+unfoldable pub instr : ℕ → Bool → Part (Instr × List ℕ)
+instr first may_else = do
+  o ← opcode may_else
   operands first o.0 o.1
 
 -- ---- instructions up to the end of the block that is open last
 
--- the blocks that are open after an instruction
+-- For each block that is open, the innermost first, it is kept whether an `else` may come: those are the blocks after an instruction.
 abbrev pub blocks_after : Instr → List Bool → List Bool
 blocks_after (Block t end) blocks = false ∷ blocks
 blocks_after (Loop t end) blocks = false ∷ blocks
@@ -137,11 +135,13 @@ blocks_after End [] = []
 blocks_after End (o ∷ blocks) = blocks
 blocks_after i blocks = blocks
 
+-- the instructions, up to the `end` of the last block that is open, and their labels
 abbrev pub IsBody : List Bool → ℕ → List ℕ → List Instr → List ℕ → Type 0
-IsBody blocks first text [] labels = (blocks ≡ []) × (text ≡ []) × (labels ≡ [])
-IsBody blocks first text (i ∷ instrs) labels =
-    (0 < length blocks) × (own : List ℕ) × (later : List ℕ) × (labels ≡ own ++ later)
-    × Joins (instr first blocks).Spells (λ x rest _. (x ≡ (i, own)) × IsBody (blocks_after i blocks) (first + length own) rest instrs later) text (tt {0})
+IsBody [] first text instrs labels = (text ≡ []) × (instrs ≡ []) × (labels ≡ [])
+IsBody (o ∷ blocks) first text [] labels = ⊥
+IsBody (o ∷ blocks) first text (i ∷ instrs) labels =
+    (own : List ℕ) × (later : List ℕ) × (labels ≡ own ++ later)
+    × Joins (instr first o).Spells (λ x rest _. (x ≡ (i, own)) × IsBody (blocks_after i (o ∷ blocks)) (first + length own) rest instrs later) text (tt {0})
 
 abbrev pub with_front : Instr → List ℕ → Reading (List Instr × List ℕ) → Reading (List Instr × List ℕ)
 with_front i own read = then_read read (λ body end. Ok ((i ∷ body.0, own ++ body.1), end))
@@ -151,7 +151,7 @@ unfoldable pub body_read : ℕ → List Bool → ℕ → Place → Reading (List
 body_read steps [] first start = Ok (([], []), start)
 body_read zero (o ∷ blocks) first start = breaks start.at Nesting
 body_read (suc steps) (o ∷ blocks) first start =
-    then_read ((instr first (o ∷ blocks)).read start) (λ x after. with_front x.0 x.1 (body_read steps (blocks_after x.0 (o ∷ blocks)) (first + length x.1) after))
+    then_read ((instr first o).read start) (λ x after. with_front x.0 x.1 (body_read steps (blocks_after x.0 (o ∷ blocks)) (first + length x.1) after))
 
 -- the instructions of a body and its targets; the body itself is the first block
 abbrev pub body : Part (List Instr × List ℕ)

@@ -7,3 +7,4 @@ pub mod Types
 pub mod Body
 pub mod ModuleText
 pub mod Examples
+pub mod Laws

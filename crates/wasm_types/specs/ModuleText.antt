@@ -3,7 +3,7 @@ use Rattle.std.specs.Prelude.{◌≡◌, ℕ, zero, suc, ◌<◌, ◌==◌, if�
 use Rattle.wasm_types.specs.declared.kind.ReadKind.TheVariants.{Magic, Section, Start, Count}
 use Rattle.wasm_types.specs.Plain.{PlainModule}
 use Rattle.wasm_types.specs.Place.{Place, Broken, Reading, then_read, breaks}
-use Rattle.wasm_types.specs.Part.{Part, Joins, done, ◌>>=◌, byte, marker, index, exactly, anything, vector, sized}
+use Rattle.wasm_types.specs.Part.{Part, Joins, done, ◌>>=◌, byte, marker, index, exactly, anything, vector, sized, sized_read}
 use Rattle.wasm_types.specs.Types.{text, func_type, import_, table, limits, global, export_, elem, seg}
 use Rattle.wasm_types.specs.Body.{code}
 
@@ -54,11 +54,14 @@ abbrev pub where_present : {A : Type 0} → Bool → Reading (List A) → Place 
 where_present true read start = read
 where_present false read start = Ok ([], start)
 
+unfoldable pub section_read : {A : Type 0} → ℕ → (Place → Reading (List A)) → Place → Reading (List A)
+section_read k read start = where_present (begins k start.rest) (then_read ((byte (marker k Section)).read start) (λ _ here. then_read (sized_read read here) (λ items behind. then_read (customs.read behind) (λ _ after. Ok (items, after))))) start
+
 -- a section with this number, and the custom ones behind it; or nothing, which is the empty list
 abbrev pub section : {A : Type 0} → ℕ → Part (List A) → Part (List A)
 section k p = record {
   Spells = λ bytes items. ((bytes ≡ []) × (items ≡ [])) ⊎ (numbered k p).Spells bytes items;
-  read = λ start. where_present (begins k start.rest) ((numbered k p).read start) start;
+  read = section_read k p.read;
 }
 
 -- the end of the input, which may come where the functions are as many as the codes

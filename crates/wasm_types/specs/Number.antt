@@ -2,6 +2,7 @@
 -- where it is the last. A number of so many bits has at most as many bytes as it needs for them, and the bits of the last
 -- byte that don't count are zero, or copies of the sign. A signed number stands for its two's complement.
 use Rattle.std.specs.Prelude.{◌≡◌, ℕ, ◌+◌, ◌-◌, ◌*◌, ◌^◌, ◌<◌, ◌≤◌, Bool, true, false, ◌&&◌, if◌then◌else◌, nat_lt, nat_le, List, [], ◌∷◌, ◌++◌, length, drop, slice_range, Option, Some, None, option_map, Result, Ok, Err}
+use Rattle.wasm_types.specs.declared.kind.ReadKind.{ReadKind}
 use Rattle.wasm_types.specs.declared.kind.ReadKind.TheVariants.{Cut, Leb}
 use Rattle.wasm_types.specs.Place.{Place, Reading, breaks}
 
@@ -39,9 +40,13 @@ unfoldable pub is_cut_number : ℕ → List ℕ → Bool
 is_cut_number bits [] = true
 is_cut_number bits (b ∷ bytes) = nat_le 128 b && (nat_lt 7 bits && is_cut_number (bits - 7) bytes)
 
+-- why no number of so many bits stands before these bytes
+abbrev pub number_kind : ℕ → List ℕ → ReadKind
+number_kind bits bytes = if is_cut_number bits bytes then Cut else Leb
+
 abbrev pub number_or : ℕ → Place → Option (ℕ × Place) → Reading ℕ
 number_or bits start (Some x) = Ok x
-number_or bits start None = breaks start.at (if is_cut_number bits start.rest then Cut else Leb)
+number_or bits start None = breaks start.at (number_kind bits start.rest)
 
 unfoldable pub number_read : Bool → ℕ → Place → Reading ℕ
 number_read signed bits start = number_or bits start (number_at signed bits start.at start.rest)

@@ -3,6 +3,8 @@ use Rattle.std.specs.Prelude.{ℕ, Bool, ◌&&◌, ◌||◌, ◌==◌, nat_le, i
 use Rattle.wasm_types.specs.declared.kind.ReadKind.{ReadKind}
 use Rattle.wasm_types.specs.declared.kind.ReadKind.TheVariants.{Float, Opcode}
 use Rattle.wasm_types.specs.declared.opcode.Shape.{Shape}
+use Rattle.wasm_types.specs.declared.opcode.ConstOp.{ConstOp}
+use Rattle.wasm_types.specs.declared.opcode.ConstOp.TheVariants as consts
 use Rattle.wasm_types.specs.declared.opcode.Shape.TheVariants.{Plain, Reserved, Index, CallIndirect, BrTable, Memory, I32Const, I64Const, Block, Loop, If, Else, End}
 
 abbrev pub is_within : ℕ → ℕ → ℕ → Bool
@@ -44,3 +46,14 @@ shape op =
     else (if op == 0x41 then Ok I32Const
     else (if op == 0x42 then Ok I64Const
     else Err Opcode)))))))))))))
+
+abbrev pub const_by : ℕ → Result Shape ReadKind → Result ConstOp ReadKind
+const_by op (Ok I32Const) = Ok consts.I32Const
+const_by op (Ok I64Const) = Ok consts.I64Const
+const_by op (Ok Index) = if op == 0x23 then Ok consts.GlobalGet else Err Opcode
+const_by op (Ok _) = Err Opcode
+const_by op (Err why) = Err why
+
+-- what a constant expression may begin with (core 1.0, section 3.3.7.2): a constant or global.get
+unfoldable pub const_op : ℕ → Result ConstOp ReadKind
+const_op op = const_by op (shape op)

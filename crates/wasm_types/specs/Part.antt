@@ -122,19 +122,27 @@ long_enough false n start after = Ok (n, after)
 unfoldable pub length_read : Place → Reading ℕ
 length_read start = then_read (index.read start) (λ n after. long_enough (nat_lt (length after.rest) n) n start after)
 
--- the part ends where it says; else the first byte left over is the place of the fault
-abbrev pub used_up : {A : Type 0} → A → ℕ → List ℕ → Place → Reading A
-used_up a at [] after = Ok (a, after)
-used_up a at (b ∷ bytes) after = breaks at Size
-
 abbrev pub inside : ℕ → Place → Place
 inside n start = record { at = start.at; rest = take n start.rest }
 
 abbrev pub behind : ℕ → Place → Place
 behind n start = record { at = start.at + n; rest = drop n start.rest }
 
+-- the first place inside a part that begins with its length, and the place behind the part
+unfoldable pub part_read : Place → Reading Place
+part_read start = then_read (length_read start) (λ n from. Ok (inside n from, behind n from))
+
+-- the part ends where it says; else the first byte left over is the place of the fault
+abbrev pub used_up : Place → List ℕ → Reading (Unit {0})
+used_up left [] = Ok (tt, left)
+used_up left (b ∷ bytes) = breaks left.at Size
+
+unfoldable pub used_up_read : Place → Reading (Unit {0})
+used_up_read left = used_up left left.rest
+
 unfoldable pub sized_read : {A : Type 0} → (Place → Reading A) → Place → Reading A
-sized_read read start = then_read (length_read start) (λ n from. then_read (read (inside n from)) (λ a left. used_up a left.at left.rest (behind n from)))
+sized_read read start =
+    then_read (part_read start) (λ within after. then_read (read within) (λ a left. then_read (used_up_read left) (λ _ _. Ok (a, after))))
 
 -- the part, behind its length in bytes
 abbrev pub sized : {A : Type 0} → Part A → Part A

@@ -15,10 +15,14 @@ use Rattle.wasm_types.specs.declared.export.Ext.TheVariants as exts
 use Rattle.wasm_types.specs.declared.global.Init.{Init}
 use Rattle.wasm_types.specs.declared.global.Init.TheVariants as inits
 use Rattle.wasm_types.specs.declared.global.GlobalVar.{GlobalVar}
+use Rattle.wasm_types.specs.declared.sort.Sort.{Sort}
+use Rattle.wasm_types.specs.declared.sort.Sort.TheVariants as sorts
+use Rattle.wasm_types.specs.declared.opcode.ConstOp.{ConstOp}
+use Rattle.wasm_types.specs.declared.opcode.ConstOp.TheVariants as consts
 use Rattle.wasm_types.specs.declared.opcode.Shape.{Shape}
 use Rattle.wasm_types.specs.declared.opcode.Shape.TheVariants as shapes
 use Rattle.wasm_types.specs.Plain.{PlainFuncType, PlainImport, PlainExport, PlainElem, PlainSeg}
-use Rattle.wasm_types.specs.Opcodes.{shape}
+use Rattle.wasm_types.specs.Opcodes.{shape, const_op}
 use Rattle.wasm_types.specs.Part.{Part, done, ◌>>=◌, judged, byte, marker, number, index, anything, vector, sized, byte_list}
 
 -- a text in UTF-8
@@ -81,18 +85,12 @@ table = do
 
 -- ---- imports and exports
 
-pub data Sort : Type 0 where
-  func : Sort
-  table_sort : Sort
-  memory_sort : Sort
-  global_sort : Sort
-
 abbrev pub sort_of : ℕ → Result Sort ReadKind
 sort_of b =
-    if b == 0 then Ok func
-    else (if b == 1 then Ok table_sort
-    else (if b == 2 then Ok memory_sort
-    else (if b == 3 then Ok global_sort else Err Kind)))
+    if b == 0 then Ok sorts.Func
+    else (if b == 1 then Ok sorts.Table
+    else (if b == 2 then Ok sorts.Memory
+    else (if b == 3 then Ok sorts.Global else Err Kind)))
 
 unfoldable pub global_desc : Part Desc
 global_desc = do
@@ -101,16 +99,16 @@ global_desc = do
   done (descs.Global ty mutable)
 
 abbrev pub desc_of : Sort → Part Desc
-desc_of func = do
+desc_of sorts.Func = do
   ty ← index
   done (descs.Func ty)
-desc_of table_sort = do
+desc_of sorts.Table = do
   size ← table
   done (descs.Table size)
-desc_of memory_sort = do
+desc_of sorts.Memory = do
   size ← limits
   done (descs.Memory size)
-desc_of global_sort = global_desc
+desc_of sorts.Global = global_desc
 
 unfoldable pub desc : Part Desc
 desc = do
@@ -125,10 +123,10 @@ import_ = do
   done (record { «module» = from; name = name; desc = what })
 
 abbrev pub ext_of : Sort → ℕ → Ext
-ext_of func i = exts.Func i
-ext_of table_sort i = exts.Table i
-ext_of memory_sort i = exts.Memory i
-ext_of global_sort i = exts.Global i
+ext_of sorts.Func i = exts.Func i
+ext_of sorts.Table i = exts.Table i
+ext_of sorts.Memory i = exts.Memory i
+ext_of sorts.Global i = exts.Global i
 
 unfoldable pub ext : Part Ext
 ext = do
@@ -144,22 +142,6 @@ export_ = do
 
 -- ---- constant expressions, globals and segments
 
-pub data ConstOp : Type 0 where
-  i32_const : ConstOp
-  i64_const : ConstOp
-  global_get : ConstOp
-
-abbrev pub const_by : ℕ → Result Shape ReadKind → Result ConstOp ReadKind
-const_by b (Ok shapes.I32Const) = Ok i32_const
-const_by b (Ok shapes.I64Const) = Ok i64_const
-const_by b (Ok shapes.Index) = if b == 0x23 then Ok global_get else Err Opcode
-const_by b (Ok _) = Err Opcode
-const_by b (Err why) = Err why
-
--- a constant or global.get; else it is of floats or another
-abbrev pub const_of : ℕ → Result ConstOp ReadKind
-const_of b = const_by b (shape b)
-
 abbrev pub end_by : Result Shape ReadKind → Result (Unit {0}) ReadKind
 end_by (Ok shapes.End) = Ok tt
 end_by (Ok _) = Err Opcode
@@ -169,21 +151,28 @@ abbrev pub end_of : ℕ → Result (Unit {0}) ReadKind
 end_of b = end_by (shape b)
 
 abbrev pub const_operand : ConstOp → Part Init
-const_operand i32_const = do
+const_operand consts.I32Const = do
   n ← number true 32
   done (inits.Const (values.I32 n))
-const_operand i64_const = do
+const_operand consts.I64Const = do
   n ← number true 64
   done (inits.Const (values.I64 n))
-const_operand global_get = do
+const_operand consts.GlobalGet = do
   i ← index
   done (inits.Global i)
 
+unfoldable pub const_value : Part Init
+const_value = do
+  op ← byte const_op
+  const_operand op
+
+unfoldable pub const_end : Part (Unit {0})
+const_end = byte end_of
+
 unfoldable pub init : Part Init
 init = do
-  op ← byte const_of
-  value ← const_operand op
-  _ ← byte end_of
+  value ← const_value
+  _ ← const_end
   done value
 
 unfoldable pub global : Part GlobalVar

@@ -144,3 +144,26 @@ fn goes_on(bytes: &[u8], at: usize, bits: u32) -> bool
     }
     goes_on(bytes, at + 1, bits - 7)
 }
+
+#[cfg(test)]
+mod tests {
+    use super::*;
+
+    #[test]
+    fn numbers_are_read_exactly(rt: HostRuntime) {
+        assert_eq!(rt; read_u32(&[0xE5, 0x8E, 0x26], 0), Ok((624485, 3)));
+        assert_eq!(rt; read_u32(&[0x80, 0x80, 0x80, 0x80, 0x00], 0), Ok((0, 5)));
+        assert_eq!(rt;
+            read_u32(&[0xFF, 0xFF, 0xFF, 0xFF, 0x0F], 0),
+            Ok((4294967295, 5))
+        );
+        assert_eq!(rt; read_u32(&[0xFF, 0xFF, 0xFF, 0xFF, 0x1F], 0), Err(Leb(0)));
+        assert_eq!(rt; read_u32(&[0x80], 0), Err(Leb(0)));
+        assert_eq!(rt; read_s32(&[0x7F], 0), Ok((-1, 1)));
+        assert_eq!(rt; read_s32(&[0xFF, 0xFF, 0xFF, 0xFF, 0x7F], 0), Ok((-1, 5)));
+        assert_eq!(rt; read_s32(&[0xFF, 0xFF, 0xFF, 0xFF, 0x0F], 0), Err(Leb(0)));
+        assert_eq!(rt; read_s64(&[0x2A, 0x7F], 1), Ok((-1, 2)));
+        assert!(rt; is_cut(&[0x80, 0x80], 0, 32));
+        assert!(rt; !is_cut(&[0xFF, 0xFF, 0xFF, 0xFF, 0xFF], 0, 32));
+    }
+}

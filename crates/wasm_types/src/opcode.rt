@@ -1,5 +1,5 @@
 ghost use Rattle.std.specs.Prelude.{◌≡◌};
-ghost use Rattle.wasm_types.specs.Opcodes.{shape};
+ghost use Rattle.wasm_types.specs.Opcodes.{shape, const_op};
 
 use crate::kind::ReadKind;
 
@@ -51,5 +51,33 @@ pub fn shape_of(op: u8) -> Result<Shape, ReadKind>
         0x00 | 0x01 | 0x0F | 0x1A | 0x1B => Ok(Shape::Plain),
         0x45..=0xC4 => Ok(Shape::Plain),
         _ => Err(ReadKind::Opcode),
+    }
+}
+
+/// The opcodes that a constant expression may begin with.
+#[derive(Clone, Copy, Debug, PartialEq, Eq)]
+pub enum ConstOp {
+    I32Const,
+    I64Const,
+    GlobalGet,
+}
+
+/// The opcode of a constant expression, or why it isn't one.
+#[tactic(auto, unfolding(crate::specs::Opcodes::const_op))]
+pub fn const_op_of(op: u8) -> Result<ConstOp, ReadKind>
+    ensures { result ≡ const_op op }
+{
+    match shape_of(op) {
+        Ok(Shape::I32Const) => Ok(ConstOp::I32Const),
+        Ok(Shape::I64Const) => Ok(ConstOp::I64Const),
+        Ok(Shape::Index) => {
+            if op == 0x23 {
+                Ok(ConstOp::GlobalGet)
+            } else {
+                Err(ReadKind::Opcode)
+            }
+        }
+        Ok(_) => Err(ReadKind::Opcode),
+        Err(kind) => Err(kind),
     }
 }
