@@ -1,5 +1,5 @@
 -- Reading instructions one after the other, as a loop does.
-use Rattle.std.proofs.Common.{◌≡◌, ℕ, zero, suc, ◌-◌, ◌+◌, ◌≤◌, ◌<◌, Bool, false, List, [], ◌∷◌, ◌++◌, length, Option, Some, None, Result, Ok, Err, refl, sym, ap, subst, ◌∙◌, append_assoc, arith}
+use Rattle.std.proofs.Common.{◌≡◌, ℕ, zero, suc, ◌-◌, ◌+◌, ◌≤◌, ◌<◌, Bool, List, [], ◌∷◌, ◌++◌, length, Ok, Err, refl, sym, ap, subst, ◌∙◌, append_assoc, arith}
 use Rattle.std.proofs.lemmas.List.{append-nil, length-append, nil_from_length}
 use Rattle.wasm_types.specs.declared.kind.ReadKind.TheVariants.{Nesting}
 use Rattle.wasm_types.specs.declared.instr.Instr.{Instr}
@@ -9,7 +9,7 @@ use Rattle.wasm_reader.specs.declared.stop.ReadStop.{ReadStop}
 use Rattle.wasm_reader.specs.declared.stop.ReadStop.TheVariants.{Fault, NoMemory}
 use Rattle.wasm_reader.specs.Gives.{Fails, adding}
 use Rattle.wasm_reader.proofs.Tables.{read_of, ok_is, value, place_of}
-use Rattle.wasm_reader.proofs.Shrinks.{within_instr, instr_at_end, own}
+use Rattle.wasm_reader.proofs.Shrinks.{within_instr, instr_at_end}
 
 -- these instructions and targets, and then those that are read
 abbrev pub with_body : List Instr → List ℕ → Reading (List Instr × List ℕ) → Reading (List Instr × List ℕ)
@@ -96,8 +96,10 @@ module _ (instrs : List Instr) (targets : List ℕ) (most : ℕ) (may_else : Boo
       fault_of : (read : Reading One) → adding targets read ≡ Err (record { at = at; kind = why }) → read ≡ Err (record { at = at; kind = why })
       fault_of (Ok x) e = absurd cc
       fault_of (Err f) e = cc
+
       broke : (instr (length targets) may_else).read start ≡ Err (record { at = at; kind = why })
       broke = fault_of ((instr (length targets) may_else).read start) h
+
       go : (steps : ℕ) → most - length instrs ≡ steps → total ≡ Err (record { at = at; kind = why })
       go zero k =
           let empty : start.rest ≡ [] = nil_from_length start.rest (omega (arith, k)) in

@@ -1,6 +1,6 @@
 -- Reading custom sections one after the other, as a loop does.
-use Rattle.std.proofs.Common.{◌≡◌, ℕ, zero, suc, ◌+◌, ◌≤◌, ◌<◌, Bool, true, false, List, [], ◌∷◌, length, Result, Ok, Err, refl, sym, ap, ◌∙◌, arith}
-use Rattle.wasm_types.specs.Place.{Place, Reading, then_read}
+use Rattle.std.proofs.Common.{◌≡◌, ℕ, zero, suc, ◌≤◌, ◌<◌, true, false, List, [], ◌∷◌, length, Ok, Err, refl, sym, ◌∙◌, arith}
+use Rattle.wasm_types.specs.Place.{Place, Reading}
 use Rattle.wasm_types.specs.ModuleText.{custom, customs_read, begins}
 use Rattle.wasm_reader.specs.declared.stop.ReadStop.{ReadStop}
 use Rattle.wasm_reader.specs.declared.stop.ReadStop.TheVariants.{Fault, NoMemory}

@@ -8,3 +8,5 @@ pub mod Shrinks
 pub mod Placing
 pub mod CustomLoop
 pub mod WholeInput
+pub mod Comparing
+pub mod ModuleParts

@@ -1,12 +1,12 @@
 -- Reading at a place of a whole input.
-use Rattle.std.proofs.Common.{◌≡◌, ℕ, ◌+◌, ◌-◌, ◌<◌, ◌≤◌, Bool, true, false, cond, ltb, List, [], ◌∷◌, length, get_or, take, drop, Result, Ok, Err, refl, sym, ap, ◌∙◌, arith, add-one, drop-cons}
+use Rattle.std.proofs.Common.{◌≡◌, ℕ, ◌+◌, ◌-◌, ◌<◌, ◌≤◌, Bool, true, false, cond, ltb, List, ◌∷◌, length, get_or, take, drop, Ok, refl, arith, add-one, drop-cons}
 use Rattle.std.specs.Prelude.{nat_eq}
 use Rattle.std.specs.List.{starts_with}
 use Rattle.std.proofs.lemmas.Bool.{lt-ltb, le-ltb}
 use Rattle.std.proofs.lemmas.List.{drop_all, drop-drop, drop-take, length-drop}
 use Rattle.wasm_types.specs.declared.kind.ReadKind.{ReadKind}
 use Rattle.wasm_types.specs.declared.kind.ReadKind.TheVariants.{Cut, Magic, Size}
-use Rattle.wasm_types.specs.Place.{Place, Reading, breaks}
+use Rattle.wasm_types.specs.Place.{Place, breaks}
 use Rattle.wasm_types.specs.Number.{place_at, number_read}
 use Rattle.wasm_types.specs.Part.{next_read, used_up_read, word_read, part_read, length_read}
 use Rattle.wasm_types.specs.ModuleText.{header}

@@ -1,6 +1,6 @@
 -- Going back over the instructions of a body, from the last to the first, as a loop does.
-use Rattle.std.proofs.Common.{◌≡◌, ℕ, suc, ◌-◌, ◌+◌, ◌≤◌, ◌<◌, List, [], ◌∷◌, ◌++◌, length, get_or, set, take, drop, Option, refl, sym, ap, ◌∙◌, append_assoc, arith}
-use Rattle.std.proofs.lemmas.List.{append-nil, length-append, length-take, take_all, drop_all, take_more, drop_more}
+use Rattle.std.proofs.Common.{◌≡◌, ℕ, ◌-◌, ◌+◌, ◌≤◌, ◌<◌, List, [], ◌∷◌, ◌++◌, length, get_or, set, take, drop, refl, sym, ap, ◌∙◌, append_assoc, arith}
+use Rattle.std.proofs.lemmas.List.{append-nil, length-take, take_all, drop_all, take_more, drop_more}
 use Rattle.std.proofs.Math.Seq.{set-append_seam}
 use Rattle.wasm_types.specs.declared.instr.Instr.{Instr}
 use Rattle.wasm_types.specs.Body.{closings, closings_with, closed, innermost, placed}
@@ -47,7 +47,7 @@ module _ (instrs now : List Instr) (at : ℕ) (d : Instr) (some : 0 < at) (below
   unfolding placed
   set_is new e =
       let one : set now (at - 1) new ≡ take (at - 1) instrs ++ new ∷ placed at (drop at instrs)
-            = ap (λ (l : List Instr). set l (at - 1) new) split ∙ ap (λ (n : ℕ). set (take (at - 1) instrs ++ i ∷ placed at (drop at instrs)) n new) (sym len) ∙ set-append_seam (take (at - 1) instrs) i (placed at (drop at instrs)) new in
+      = ap (λ (l : List Instr). set l (at - 1) new) split ∙ ap (λ (n : ℕ). set (take (at - 1) instrs ++ i ∷ placed at (drop at instrs)) n new) (sym len) ∙ set-append_seam (take (at - 1) instrs) i (placed at (drop at instrs)) new in
       one ∙ rw (rest, back, e) refl
 
   pub around : closings (at - 1) (drop (at - 1) instrs) ≡ closings_with (at - 1) i (closings at (drop at instrs))

@@ -1,5 +1,5 @@
 -- Reading leaves fewer bytes: an instruction takes at least one, and one for each of its labels.
-use Rattle.std.proofs.Common.{◌≡◌, ℕ, zero, suc, ◌-◌, ◌+◌, ◌*◌, ◌≤◌, ◌<◌, Bool, true, false, leb, ltb, List, [], ◌∷◌, ◌++◌, length, replicate, Option, Some, None, Result, Ok, Err, refl, sym, ap, subst, ◌∙◌, arith, inl, inr}
+use Rattle.std.proofs.Common.{◌≡◌, ℕ, zero, suc, ◌-◌, ◌+◌, ◌*◌, ◌≤◌, ◌<◌, Bool, true, false, leb, ltb, List, [], ◌∷◌, ◌++◌, length, replicate, Option, Some, None, Result, Ok, Err, refl, ap, subst, arith, inl, inr}
 use Rattle.std.specs.Prelude.{option_map}
 use Rattle.std.proofs.lemmas.List.{length-drop}
 use Rattle.std.proofs.lemmas.Bool.{lt-ltb, le-ltb, cases_lt}
@@ -17,7 +17,7 @@ use Rattle.wasm_types.specs.Part.{next_read, next_of, known, times_read, index, 
 use Rattle.wasm_types.specs.ModuleText.{named_bytes, custom}
 use Rattle.wasm_types.specs.Body.{opcode, nested, block_type, block_type_of, reserved, br_table, memory_access, call_indirect, operands, instr, group, groups_read, locals, max_locals}
 use Rattle.wasm_types.specs.Types.{val_type, val_type_of}
-use Rattle.wasm_reader.proofs.Tables.{bind_ok, ok_is, value, place_of}
+use Rattle.wasm_reader.proofs.Tables.{bind_ok, ok_is, place_of}
 
 -- what is read and the bytes that are left are together at most the bytes that were there, and k more
 abbrev pub Within : {A : Type 0} → ℕ → (A → ℕ) → (Place → Reading A) → Type 0
@@ -132,8 +132,8 @@ within_table : (first : ℕ) → Within 1 own ((br_table first).read)
 unfolding br_table
 within_table first =
     within_bind 1 (λ (ls : List ℕ). 1 + length ls) own (vector index).read (λ labels here. then_read (number_read false 32 here) (λ d end. Ok ((BrTable first (length labels) d, labels), end))) within_vector
-        (λ labels. within_bind (1 + length labels) (λ _. 1 + length labels) own (number_read false 32) (λ d end. Ok ((BrTable first (length labels) d, labels), end)) (within_default labels)
-            (λ d. within_done (1 + length labels) own (BrTable first (length labels) d, labels) (omega arith)))
+    (λ labels. within_bind (1 + length labels) (λ _. 1 + length labels) own (number_read false 32) (λ d end. Ok ((BrTable first (length labels) d, labels), end)) (within_default labels)
+    (λ d. within_done (1 + length labels) own (BrTable first (length labels) d, labels) (omega arith)))
 
 within_reserved : Within 0 one_byte reserved.read
 unfolding reserved
@@ -147,13 +147,13 @@ within_call : Within 1 own call_indirect.read
 unfolding call_indirect
 within_call =
     within_bind 1 one_byte own (number_read false 32) (λ ty here. then_read (reserved.read here) (λ _ end. Ok ((CallIndirect ty, []), end))) (within_one (number_read false 32) (within_number false 32))
-        (λ ty. within_then reserved.read (λ _. CallIndirect ty) within_reserved)
+    (λ ty. within_then reserved.read (λ _. CallIndirect ty) within_reserved)
 
 within_access : (op : ℕ) → Within 1 own (memory_access op).read
 unfolding memory_access
 within_access op =
     within_bind 1 one_byte own (number_read false 32) (λ align here. then_read (number_read false 32 here) (λ offset end. Ok ((Mem op align offset, []), end))) (within_one (number_read false 32) (within_number false 32))
-        (λ align. within_then (number_read false 32) (λ offset. Mem op align offset) (within_number false 32))
+    (λ align. within_then (number_read false 32) (λ offset. Mem op align offset) (within_number false 32))
 
 within_operands : (first op : ℕ) (s : Shape) → Within 1 own ((operands first op s).read)
 within_operands first op shapes.Plain = within_done 1 own _ (omega arith)
@@ -210,15 +210,15 @@ within_group : (before : ℕ) → Within 0 none (group before).read
 unfolding group
 within_group before =
     within_bind 0 none none (λ start. then_read (number_read false 32 start) (λ n here. passing (leb (before + n) max_locals) Locals n start here)) (λ n start. then_read (val_type.read start) (λ t here. Ok (replicate n t, here)))
-        (within_fewer _ (within_judged Locals (λ n. leb (before + n) max_locals) (number_read false 32) (within_number false 32)))
-        (λ n. within_bind 0 none none val_type.read (λ t here. Ok (replicate n t, here)) (within_fewer val_type.read within_val_type) (λ t. within_done 0 none (replicate n t) (omega arith)))
+    (within_fewer _ (within_judged Locals (λ n. leb (before + n) max_locals) (number_read false 32) (within_number false 32)))
+    (λ n. within_bind 0 none none val_type.read (λ t here. Ok (replicate n t, here)) (within_fewer val_type.read within_val_type) (λ t. within_done 0 none (replicate n t) (omega arith)))
 
 within_groups : (groups before : ℕ) → Within 0 none (groups_read groups before)
 unfolding groups_read
 within_groups zero before = within_done 0 none [] (omega arith)
 within_groups (suc groups) before =
     within_bind 0 none none (group before).read (λ own after. then_read (groups_read groups (before + length own) after) (λ others end. Ok (own ++ others, end))) (within_group before)
-        (λ own. within_bind 0 none none (groups_read groups (before + length own)) (λ others end. Ok (own ++ others, end)) (within_groups groups (before + length own)) (λ others. within_done 0 none (own ++ others) (omega arith)))
+    (λ own. within_bind 0 none none (groups_read groups (before + length own)) (λ others end. Ok (own ++ others, end)) (within_groups groups (before + length own)) (λ others. within_done 0 none (own ++ others) (omega arith)))
 
 pub within_locals : Within 0 none locals.read
 unfolding locals
@@ -261,4 +261,4 @@ pub within_custom : Within 0 one_byte custom.read
 unfolding custom
 within_custom =
     within_bind 0 one_byte one_byte (λ start. then_read (next_read Cut start) (λ b here. known (marker 0 Section b) start here)) (λ _. sized_read named_bytes.read)
-        (within_byte Cut (marker 0 Section)) (λ _. within_inside)
+    (within_byte Cut (marker 0 Section)) (λ _. within_inside)

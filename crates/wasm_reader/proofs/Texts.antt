@@ -1,9 +1,9 @@
 -- Texts and lists of bytes, from the place inside them and the place behind.
-use Rattle.std.proofs.Common.{◌≡◌, ℕ, List, Bool, true, false, Result, Ok, Err, refl}
+use Rattle.std.proofs.Common.{◌≡◌, ℕ, List, Bool, true, false, Ok, refl}
 use Rattle.std.specs.Str.{is_utf8, IsUtf8}
 use Rattle.std.proofs.lemmas.Str.{is_utf8-from_IsUtf8, IsUtf8-from_is_utf8}
 use Rattle.wasm_types.specs.declared.kind.ReadKind.TheVariants.{Name}
-use Rattle.wasm_types.specs.Place.{Place, Reading, breaks}
+use Rattle.wasm_types.specs.Place.{Place, breaks}
 use Rattle.wasm_types.specs.Part.{part_read, sized_read, used_up_read, byte_list}
 use Rattle.wasm_types.specs.Types.{text}
 use Rattle.wasm_reader.specs.declared.stop.ReadStop.{ReadStop}

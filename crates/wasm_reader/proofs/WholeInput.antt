@@ -1,5 +1,5 @@
 -- From what reading the module gives to what is spelled and where the bytes break.
-use Rattle.std.proofs.Common.{◌≡◌, List, ℕ, Result, Ok, Err, Option, Some, None, refl, sym, ap, ◌∙◌, ◌⊎◌, inl, inr}
+use Rattle.std.proofs.Common.{◌≡◌, ◌↔◌, IsTrue, Bool, true, false, List, ℕ, Result, Ok, Err, Option, Some, None, refl, sym, ap, ◌∙◌, ◌⊎◌, inl, inr}
 use Rattle.std.specs.Prelude.{IfOk, IfErr, MatchResult}
 use Rattle.wasm_types.specs.declared.module.Module.{Module}
 use Rattle.wasm_types.specs.Plain.{PlainModule, plain_module}
@@ -8,7 +8,7 @@ use Rattle.wasm_types.specs.ModuleText.{AreBytes, IsModule, broken, broken_in, r
 use Rattle.wasm_types.proofs.TextLaws.{is_read, is_spelled}
 use Rattle.wasm_reader.specs.declared.stop.ReadStop.{ReadStop}
 use Rattle.wasm_reader.specs.declared.stop.ReadStop.TheVariants.{Fault, NoMemory}
-use Rattle.wasm_reader.specs.Gives.{Gives}
+use Rattle.wasm_reader.specs.Gives.{Gives, Compares}
 use Rattle.wasm_reader.specs.Answers.{IsFault}
 use Rattle.wasm_reader.proofs.Tables.{ok_is, value}
 
@@ -50,3 +50,13 @@ module _ (bytes : List ℕ) (fits : AreBytes bytes) (after : Place) where
     where
       same : {g : Broken} → Some (record { at = at; kind = why }) ≡ Some g → stopped (Fault at why) ≡ stopped (Fault g.at g.kind)
       same e = ap (λ (o : Option Broken). stopped (fault_of o)) e
+
+  pub same_module : (m : PlainModule) (b : Bool) → Compares m (Ok b) after (reading_of bytes) → IsTrue b ↔ IsModule bytes m
+  same_module m true h = (λ t. is_spelled bytes m after fits h, λ s. refl)
+  same_module m false h = (λ t. absurd cc, λ s. absurd (h _ (is_read bytes m s)))
+
+  pub no_module : (m : PlainModule) (f : Broken) → reading_of bytes ≡ Err f → IsTrue false ↔ IsModule bytes m
+  no_module m f h = (λ t. absurd cc, λ s. absurd (differ (sym (is_read bytes m s) ∙ h)))
+    where
+      differ : {x : PlainModule × Place} → ok_reading x ≡ Err f → ⊥
+      differ e = cc

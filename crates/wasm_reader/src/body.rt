@@ -32,10 +32,7 @@ fn nest(outer: &mut Vec<bool>, may_else: bool, instr: Instr) -> Result<Option<bo
 }
 
 /// The instructions of a body, whose places are still open, and its targets.
-pub fn body(
-    alloc: Global,
-    cursor: &mut Cursor,
-) -> Result<(Vec<Instr>, Vec<u32>), ReadStop>
+pub fn body(alloc: Global, cursor: &mut Cursor) -> Result<(Vec<Instr>, Vec<u32>), ReadStop>
     requires { length (place cursor.old).rest < 2 ^ 32 }
     ensures gives { Gives (λ b. (b.0.items, b.1.items)) result (place cursor.new)
         (body.read (place cursor.old)) }

@@ -12,8 +12,9 @@ use crate::stop::{ReadStop, fault};
 use crate::text::bytes;
 use crate::types::{flag, val_type};
 use std::alloc::Global;
-use wasm_types::{ConstOp, Elem, GlobalVar, Init, ReadKind, Seg, Shape, Value};
-use wasm_types::{const_op_of, shape_of};
+use wasm_types::{
+    ConstOp, Elem, GlobalVar, Init, ReadKind, Seg, Shape, Value, const_op_of, shape_of,
+};
 
 fn const_op(cursor: &mut Cursor) -> Result<ConstOp, ReadStop>
     ensures { Gives (λ op. op) result (place cursor.new) ((byte const_op).read (place cursor.old)) }

@@ -77,11 +77,7 @@ fn memory_access(cursor: &mut Cursor, op: u8) -> Result<Instr, ReadStop>
 }
 
 /// The labels go behind the targets that are there.
-fn br_table(
-    alloc: Global,
-    cursor: &mut Cursor,
-    targets: &mut Vec<u32>,
-) -> Result<Instr, ReadStop>
+fn br_table(alloc: Global, cursor: &mut Cursor, targets: &mut Vec<u32>) -> Result<Instr, ReadStop>
     requires { length targets.old.items < 2 ^ 32 }
     ensures { Gives (λ i. (i, targets.new.items)) result (place cursor.new)
         (adding targets.old.items ((br_table (length targets.old.items)).read (place cursor.old))) }
@@ -108,7 +104,7 @@ fn operands(
     requires { length targets.old.items < 2 ^ 32 }
     ensures { Gives (λ i. (i, targets.new.items)) result (place cursor.new)
         (adding targets.old.items
-            ((operands (length targets.old.items) op shape).read (place cursor.old))) }
+        ((operands (length targets.old.items) op shape).read (place cursor.old))) }
 {
     match shape {
         Shape::Plain => Ok(Instr::Op(op)),
@@ -172,7 +168,7 @@ pub fn instr(
     requires { length targets.old.items < 2 ^ 32 }
     ensures { Gives (λ i. (i, targets.new.items)) result (place cursor.new)
         (adding targets.old.items
-            ((instr (length targets.old.items) may_else).read (place cursor.old))) }
+        ((instr (length targets.old.items) may_else).read (place cursor.old))) }
 {
     let (op, shape) = opcode(cursor, may_else)?;
     let instr = operands(alloc, cursor, targets, op, shape)?;

@@ -12,11 +12,11 @@ mod locals;
 mod nesting;
 mod reading;
 mod sections;
-
+mod spelling;
 mod stop;
 mod text;
 mod types;
 
 pub use reading::read;
-
+pub use spelling::spells;
 pub use stop::ReadStop;

@@ -1,8 +1,7 @@
-use Rattle.std.proofs.Common.{arith, ◌≡◌, ◌∙◌, ℕ, Bool, List, length, sym, ap, reverse, Option, Some, None, ◌∷◌, [], ◌+◌, ◌<◌}
+use Rattle.std.proofs.Common.{arith, length, reverse, ◌∷◌, []}
 use Rattle.std.proofs.lemmas.List.{length-append}
 use Rattle.std.proofs.lemmas.Result.{err_from_is_err_and}
 use Rattle.wasm_reader.specs.CursorPlace.{place}
-use Rattle.wasm_reader.specs.Blocks.{blocks_of}
 use Rattle.wasm_reader.proofs.Bodies.{shrinks, less, goes_on, fails, is_done}
 use Rattle.wasm_reader.proofs.body.body.Goals as goal
 
@@ -15,7 +14,7 @@ returns-in_err-instr-clause-gives c =
 pub loop-inner-smaller : goal.loop-inner-smaller
 loop-inner-smaller c =
     less c.loop-inner.instrs.items c.loop-inner.targets.items (length (place c.args.cursor.now).rest) c.in-Some.may_else (reverse c.loop-inner.outer.items) (place c.loop-inner.cursor) c.loop-inner.invariant.room
-        c.in_ok-instr.instr c.instr.new.targets.items (place c.instr.new.cursor) c.in_ok-instr.ensures
+    c.in_ok-instr.instr c.instr.new.targets.items (place c.instr.new.cursor) c.in_ok-instr.ensures
 
 pub loop-inner-preserved : goal.loop-inner-preserved
 loop-inner-preserved c =
@@ -24,7 +23,7 @@ loop-inner-preserved c =
     let shorter = shrinks c.loop-inner.instrs.items c.loop-inner.targets.items (length (place c.args.cursor.now).rest) c.in-Some.may_else (reverse c.loop-inner.outer.items) (place c.loop-inner.cursor) c.loop-inner.invariant.room c.in_ok-instr.instr c.instr.new.targets.items (place c.instr.new.cursor) c.in_ok-instr.ensures in
     record {
       read = rw (c.in_ok-push.ensures.items, c.in_ok-inner.ensures) (goes_on c.loop-inner.instrs.items c.loop-inner.targets.items (length (place c.args.cursor.now).rest) c.in-Some.may_else (reverse c.loop-inner.outer.items) (place c.loop-inner.cursor) c.loop-inner.invariant.room
-        c.in_ok-instr.instr c.instr.new.targets.items (place c.instr.new.cursor) _ c.in_ok-instr.ensures so_far);
+          c.in_ok-instr.instr c.instr.new.targets.items (place c.instr.new.cursor) _ c.in_ok-instr.ensures so_far);
       room = rw c.in_ok-push.ensures.items (omega (arith, fewer, c.loop-inner.invariant.room, length-append c.loop-inner.instrs.items (c.in_ok-instr.instr ∷ [])));
       labels = omega (arith, shorter, c.loop-inner.invariant.labels);
     }

@@ -8,8 +8,8 @@ use Rattle.wasm_reader.proofs.body.body.Given as goal
 abbrev pub invariant-loop-inner : goal.invariant-loop-inner
 invariant-loop-inner l = record {
   read : with_body l.instrs.items l.targets.items
-    (body_read (length (place l.fn.cursor).rest - length l.instrs.items) (blocks_of l.inner (reverse l.outer.items)) (length l.targets.items) (place l.cursor))
-    ≡ body.read (place l.fn.cursor);
+      (body_read (length (place l.fn.cursor).rest - length l.instrs.items) (blocks_of l.inner (reverse l.outer.items)) (length l.targets.items) (place l.cursor))
+      ≡ body.read (place l.fn.cursor);
   room : length l.instrs.items + length (place l.cursor).rest ≤ length (place l.fn.cursor).rest;
   labels : length l.targets.items + length (place l.cursor).rest ≤ length (place l.fn.cursor).rest;
 }

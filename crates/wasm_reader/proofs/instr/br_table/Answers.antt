@@ -1,4 +1,4 @@
-use Rattle.std.proofs.Common.{arith, ◌≡◌, length, sym}
+use Rattle.std.proofs.Common.{arith, ◌≡◌, length}
 use Rattle.std.proofs.lemmas.Result.{err_from_is_err_and}
 use Rattle.wasm_reader.specs.CursorPlace.{place}
 use Rattle.wasm_reader.proofs.Tables.{no_count, no_labels, no_default, table_is}

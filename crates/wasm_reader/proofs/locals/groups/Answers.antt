@@ -1,6 +1,5 @@
-use Rattle.std.proofs.Common.{arith, ◌≤◌, ◌≡◌}
+use Rattle.std.proofs.Common.{arith}
 use Rattle.std.proofs.lemmas.Result.{err_from_is_err_and}
-use Rattle.wasm_types.specs.Body.{max_locals}
 use Rattle.wasm_reader.specs.CursorPlace.{place}
 use Rattle.wasm_reader.proofs.Groups.{goes_on, fails, is_done}
 use Rattle.wasm_reader.proofs.locals.groups.Goals as goal

@@ -1,5 +1,5 @@
-use Rattle.std.proofs.Common.{arith, ◌≡◌, ◌∙◌, sym, ap, reverse}
-use Rattle.wasm_types.specs.Body.{closed, closings_with, innermost}
+use Rattle.std.proofs.Common.{arith, ◌∙◌, sym, ap, reverse}
+use Rattle.wasm_types.specs.Body.{innermost}
 use Rattle.wasm_types.specs.declared.instr.Instr.TheVariants.{Op}
 use Rattle.wasm_reader.proofs.Placing.{nothing_done, no_closings, same, set_is, around}
 use Rattle.wasm_reader.proofs.nesting.place_blocks.Goals as goal

@@ -2,7 +2,7 @@ use Rattle.std.proofs.Common.{arith, ◌<◌}
 use Rattle.std.proofs.lemmas.List.Elements.{All-from_get_or}
 use Rattle.wasm_types.specs.ModuleText.{AreBytes}
 use Rattle.wasm_reader.specs.CursorPlace.{place}
-use Rattle.wasm_reader.proofs.WholeInput.{found, fault, spelled, breaks_at}
+use Rattle.wasm_reader.proofs.WholeInput.{found, spelled}
 use Rattle.wasm_reader.proofs.reading.read.Goals as goal
 
 pub returns-clause-found : goal.returns-clause-found

@@ -1,5 +1,4 @@
-use Rattle.std.proofs.Common.{◌≡◌, ◌∙◌, true, false, sym, ap, drop, Bool}
-use Rattle.wasm_types.specs.Place.{breaks}
+use Rattle.std.proofs.Common.{true, false, sym}
 use Rattle.wasm_reader.specs.CursorPlace.{place}
 use Rattle.wasm_reader.proofs.Places.{word_found, word_missing}
 use Rattle.wasm_reader.proofs.cursor.Cursor.header.Goals as goal

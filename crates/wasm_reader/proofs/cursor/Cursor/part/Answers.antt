@@ -1,4 +1,3 @@
-use Rattle.std.proofs.Common.{arith}
 use Rattle.std.proofs.lemmas.Result.{err_from_is_err_and}
 use Rattle.wasm_reader.specs.CursorPlace.{place}
 use Rattle.wasm_reader.proofs.Places.{no_length, too_long, long_enough}
