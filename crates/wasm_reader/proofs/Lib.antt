@@ -1,0 +1,12 @@
+pub mod Places
+pub mod Vectors
+pub mod Texts
+pub mod Groups
+pub mod Tables
+pub mod Bodies
+pub mod Shrinks
+pub mod Placing
+pub mod CustomLoop
+pub mod WholeInput
+pub mod Comparing
+pub mod ModuleParts

@@ -1,0 +1,4 @@
+pub mod Gives
+pub mod CursorPlace
+pub mod Blocks
+pub mod Answers

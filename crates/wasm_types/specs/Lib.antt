@@ -1,0 +1,10 @@
+pub mod Plain
+pub mod Place
+pub mod Number
+pub mod Opcodes
+pub mod Part
+pub mod Types
+pub mod Body
+pub mod ModuleText
+pub mod Examples
+pub mod Laws
