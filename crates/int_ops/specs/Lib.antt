@@ -1,0 +1,4 @@
+pub mod Bits
+pub mod Examples
+pub mod Integers
+pub mod Numerics
