@@ -1,0 +1,4 @@
+pub mod Grouping
+pub mod Closing
+pub mod Lettering
+pub mod Joining

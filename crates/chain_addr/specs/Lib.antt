@@ -1,0 +1,5 @@
+pub mod Bech32
+pub mod Checksum
+pub mod Contract
+pub mod Groups
+pub mod Letters

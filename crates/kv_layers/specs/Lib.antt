@@ -1,0 +1,11 @@
+pub mod Bytes
+pub mod Next
+pub mod Plain
+pub mod Sorted
+pub mod Maps
+pub mod PlainMap
+pub mod Changes
+pub mod Delta
+pub mod Layers
+pub mod Lowest
+pub mod Merge

@@ -1,0 +1,21 @@
+//! A map of bytes in layers: changes are made in the newest layer, which is then kept or dropped.
+#![tactic(auto)]
+
+mod base;
+mod bounds;
+mod delta;
+mod layer;
+mod layers;
+mod merge;
+mod order;
+mod plain;
+mod sorted;
+#[cfg(test)]
+mod tests;
+
+pub use base::Base;
+pub use delta::Delta;
+pub use layer::Change;
+pub use layers::Layers;
+pub use order::Order;
+pub use plain::Plain;

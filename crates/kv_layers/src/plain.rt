@@ -1,0 +1,70 @@
+ghost use Rattle.std.specs.Prelude.{◌≡◌, OnOk, OnErr};
+ghost use Rattle.std.specs.FinMap.{empty, insert};
+
+use crate::base::Base;
+use crate::bounds::Bounds;
+use crate::layer::{owned_entry, owned_value};
+use crate::order::Order;
+use crate::sorted::next_entry;
+use std::alloc::{AllocError, Global};
+use std::collections::BTreeMap;
+use std::marker::Model;
+
+/// A sorted map with nothing below it.
+#[derive(Debug, Drop)]
+pub struct Plain {
+    entries: BTreeMap<Vec<u8>, Vec<u8>>,
+}
+
+impl Model for Plain {
+    ghost use Rattle.std.specs.Coded.{coded_ℕ, coded_list};
+    ghost use Rattle.std.specs.FinMap as finite;
+    ghost use Rattle.kv_layers.specs.Bytes.{Bytes};
+    ghost use Rattle.kv_layers.specs.PlainMap.{map_of};
+
+    ghost Value = { Bytes };
+
+    ghost coded = { finite.code (coded_list coded_ℕ) (coded_list coded_ℕ) };
+
+    ghost view = { λ s. map_of s.entries };
+}
+
+impl Plain {
+    /// The empty map.
+    pub fn new(alloc: Global) -> Plain
+        ensures { result ≡ empty }
+    {
+        Plain {
+            entries: BTreeMap::new(alloc),
+        }
+    }
+
+    /// Gives the key this value, in place of any that it had. An `Err` leaves the map as it was.
+    pub fn insert(&mut self, key: Vec<u8>, value: Vec<u8>) -> Result<(), AllocError>
+        ensures ok { OnOk result (self.new ≡ insert self.old key.items value.items) }
+        ensures err { OnErr result (self.new ≡ self.old) }
+    {
+        self.entries.insert(key, value)?;
+        Ok(())
+    }
+}
+
+impl Base for Plain {
+    ghost stands_for = { λ plain map. plain ≡ map };
+
+    fn get(&self, alloc: Global, key: &[u8]) -> Result<Option<Vec<u8>>, AllocError> {
+        let _ = alloc;
+        owned_value(self.entries.get(key))
+    }
+
+    fn next_in(
+        &self,
+        alloc: Global,
+        lo: Option<&[u8]>,
+        hi: Option<&[u8]>,
+        order: Order,
+    ) -> Result<Option<(Vec<u8>, Vec<u8>)>, AllocError> {
+        let bounds = Bounds::new(alloc, lo, hi)?;
+        owned_entry(next_entry(&self.entries, &bounds, order))
+    }
+}
