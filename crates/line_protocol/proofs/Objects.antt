@@ -34,9 +34,6 @@ or_right : (a b : Bool) → (a || b) ≡ false → b ≡ false
 or_right true b h = cc
 or_right false b h = h
 
-pub inner_whole : (es rest : List Entry) (e : Entry) → es ≡ e ∷ rest → has_float (object (members_view es)) ≡ false → has_float (view e.1) ≡ false
-inner_whole es rest e is whole = or_left _ (members_have_float (members_view rest)) (rw is at whole)
-
 whole_at : (o : Ordering) (e d : Data) (rest : Option Data) → has_float e ≡ false → ((x : Data) → rest ≡ Some x → has_float x ≡ false) → match_ordering o rest (Some e) rest ≡ Some d → has_float d ≡ false
 whole_at Less e d rest here there is = there d is
 whole_at Equal e d rest here there is = let same : d ≡ e = cc in ap has_float same ∙ here

@@ -1,3 +1,4 @@
+pub mod Examples
 pub mod Forms
 pub mod Gathering
 pub mod Lines

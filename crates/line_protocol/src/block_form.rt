@@ -3,7 +3,6 @@ ghost use Rattle.chain_msgs.specs.Plain.{tx_view, block_view};
 ghost use Rattle.serde_json.specs.Find.{get, get_member};
 ghost use Rattle.serde_json.specs.View.{view, items_view, members_view};
 ghost use Rattle.line_protocol.specs.Forms.{tx_of, block_of, payer_of, each, list_at, values_at, decimal_at};
-ghost use Rattle.line_protocol.specs.Plain.{question_view};
 ghost use Rattle.line_protocol.specs.Reads.{Reads};
 
 use crate::fields::{decimal_at, text_at, u64_at};

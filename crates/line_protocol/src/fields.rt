@@ -2,7 +2,7 @@ ghost use Rattle.std.specs.Prelude.{◌≡◌, ℕ, List, Option, option_map, st
 ghost use Rattle.serde_json.specs.Data.{Data};
 ghost use Rattle.serde_json.specs.Find.{get, as_str};
 ghost use Rattle.serde_json.specs.View.{view, items_view};
-ghost use Rattle.line_protocol.specs.Forms.{text_at, u64_of, u64_at, u32_at, decimal_at, list_at, each, each_at, text_or_null_at, u64_or_null, has_first_profile};
+ghost use Rattle.line_protocol.specs.Forms.{text_at, u64_at, u32_at, decimal_at, list_at, each, each_at, text_or_null_at, u64_or_null, has_first_profile};
 ghost use Rattle.line_protocol.specs.Reads.{Reads};
 
 use crate::kind::BadKind;
@@ -12,7 +12,7 @@ use serde_json::Value;
 use std::alloc::Global;
 
 /// The text in a field.
-pub(crate) fn text_at<'a>(value: &'a Value, name: &str) -> Result<&'a str, ParseStop>
+pub fn text_at<'a>(value: &'a Value, name: &str) -> Result<&'a str, ParseStop>
     ensures { Reads (λ text. text.now) result (text_at name.now (view value.now)) }
 {
     match value.get(name).and_then(Value::as_str) {
@@ -104,7 +104,7 @@ pub(crate) fn has_first_profile(value: &Value) -> bool
 }
 
 /// What is read from a JSON value.
-pub(crate) trait Form: Drop + Sized {
+pub trait Form: Drop + Sized {
     /// Its plain form.
     ghost Plain: { Type 0 };
 
@@ -145,11 +145,7 @@ pub(crate) fn each<F: Form>(alloc: Global, items: &Vec<Value>) -> Result<Vec<F>,
 }
 
 /// Each item of the list in a field.
-pub(crate) fn each_at<F: Form>(
-    alloc: Global,
-    value: &Value,
-    name: &str,
-) -> Result<Vec<F>, ParseStop>
+pub fn each_at<F: Form>(alloc: Global, value: &Value, name: &str) -> Result<Vec<F>, ParseStop>
     ensures { Reads (λ list. map F.plain_view list.items) result
         (each_at F.form_of name.now (view value.now)) }
 {

@@ -1,4 +1,4 @@
-ghost use Rattle.std.specs.Prelude.{◌≡◌, length, string_bytes};
+ghost use Rattle.std.specs.Prelude.{◌≡◌};
 ghost use Rattle.chain_msgs.specs.Plain.{Holding, holding_view, genesis_view};
 ghost use Rattle.coin_amounts.specs.Plain.{RawCoin as PlainCoin, raw_coin_view};
 ghost use Rattle.serde_json.specs.View.{view};

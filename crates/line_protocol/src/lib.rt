@@ -11,11 +11,14 @@ mod line;
 mod line_form;
 mod lines;
 mod reply;
+#[cfg(test)]
+mod tests;
 mod texts;
 
+pub use fields::{Form, each_at, text_at};
 pub use kind::BadKind;
 pub use line::{Line, ParseStop, Question};
-pub use line_form::parse;
+pub use line_form::{parse, read_json, variant_of};
 pub use lines::{LineStop, Lines, RawLine};
 pub use reply::{QueryReply, QueryResult};
 pub use texts::{bad_text, block_text, genesis_text, query_text};

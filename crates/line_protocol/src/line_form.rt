@@ -1,8 +1,7 @@
-ghost use Rattle.std.specs.Prelude.{◌≡◌, if◌then◌else◌, option_map, string_bytes, codes, IfOk, OnOk, false};
+ghost use Rattle.std.specs.Prelude.{◌≡◌, if◌then◌else◌, string_bytes, IfOk, false};
 ghost use Rattle.std.specs.List.{list_all};
-ghost use Rattle.serde_json.specs.Find.{get};
 ghost use Rattle.serde_json.specs.View.{view};
-ghost use Rattle.serde_json.specs.Written.{has_float, compact_text};
+ghost use Rattle.serde_json.specs.Written.{has_float};
 ghost use Rattle.line_protocol.specs.Forms.{is_blank, json_of, variant_of, question_of, request_at, named_line, line_of};
 ghost use Rattle.line_protocol.specs.Plain.{question_view, line_view};
 ghost use Rattle.line_protocol.specs.Reads.{Reads};
@@ -44,7 +43,7 @@ fn is_blank(b: u8) -> bool
 }
 
 /// The JSON value of a text, whose numbers are whole.
-fn read_json(alloc: Global, bytes: &[u8]) -> Result<Value, ParseStop>
+pub fn read_json(alloc: Global, bytes: &[u8]) -> Result<Value, ParseStop>
     ensures json { Reads view result (json_of bytes.now) }
     ensures whole { IfOk result (λ value. has_float (view value) ≡ false) }
 {
@@ -70,7 +69,7 @@ fn json_stop(is_memory: bool) -> ParseStop
 }
 
 /// The name and the value of an object's one field.
-fn variant_of(value: Value) -> Result<(String, Value), ParseStop>
+pub fn variant_of(value: Value) -> Result<(String, Value), ParseStop>
     ensures named { Reads (λ named. (string_bytes named.0, view named.1)) result
         (variant_of (view value)) }
     ensures whole { IfOk result (λ named. has_float (view value) ≡ false

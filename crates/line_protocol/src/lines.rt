@@ -1,5 +1,5 @@
-ghost use Rattle.std.specs.Prelude.{◌≡◌, ◌+◌, ◌-◌, ◌<◌, ◌≤◌, ◌*◌, ◌^◌, ◌↔◌, Some, length, vec_len, true, false, IfOk, IfErr, OnErr, IfSome, MatchOption, slice_index, ℕ, List, [], ◌++◌};
-ghost use Rattle.std.specs.Io.KnownBytes.{Keeps, IsAtEnd, Consumes};
+ghost use Rattle.std.specs.Prelude.{◌≡◌, ◌+◌, ◌<◌, ◌≤◌, ◌^◌, length, vec_len, true, false, IfOk, IfErr, OnErr, IfSome, MatchOption, slice_index, ℕ, List, [], ◌++◌};
+ghost use Rattle.std.specs.Io.KnownBytes.{Keeps, IsAtEnd};
 ghost use Rattle.outside_io.specs.Cause.{Rose};
 ghost use Rattle.line_protocol.specs.Lines.{max_input, too_large};
 ghost use Rattle.line_protocol.specs.Gathering.{IsUnfed, TakesUnfed, Measures};
@@ -7,7 +7,7 @@ ghost use Rattle.line_protocol.specs.Gathering.{IsUnfed, TakesUnfed, Measures};
 use crate::kind::BadKind;
 use memchr::memchr;
 use outside_io::Source;
-use std::alloc::{AllocError, AllocFailed, Global};
+use std::alloc::{AllocError, Global};
 
 /// How many bytes are asked of the source at a time.
 const CHUNK: usize = 16384;
@@ -69,7 +69,7 @@ pub struct Lines {
 }
 
 impl Lines {
-    ghost use Rattle.std.specs.Prelude.{IsSome, OnOk, IfNone, take, drop, None};
+    ghost use Rattle.std.specs.Prelude.{OnOk, take, drop, None};
     ghost use Rattle.line_protocol.specs.Gathering.{Draws, IsFound, IsReadStop, IsSizeStop, IsBad};
     ghost use Rattle.line_protocol.specs.Outcome.{IfLine, IfNoLine};
     ghost use Rattle.line_protocol.specs.Lines.{HandsOut, oversize, line_feed, max_line};
@@ -89,8 +89,8 @@ impl Lines {
         })
     }
 
-    /// The next line. Asks the source for no more once its end was read. After a refusal the value is
-    /// only to be dropped, and the source stays as far as it was read.
+    /// The next line. After a refusal the value is only to be dropped, and the source stays as far as
+    /// it was read.
     pub fn next<S: Source>(
         &mut self,
         alloc: Global,
@@ -109,8 +109,10 @@ impl Lines {
             (λ _. (size self.old < size self.new) × (size self.new ≤ max_input)) }
         ensures end { OnOk result (KnowsEnd self.new (S.left source.new)) }
 
-        // There is none only at the end.
+        // There is none only at the end, and then there is none again.
         ensures none { IfNoLine result (IsAtEnd (waiting self.old (S.left source.old))) }
+        ensures rest { IfNoLine result ((kept self.new ≡ []) × (is_ended self.new ≡ true)) }
+        ensures still { IfNoLine result (IsBehind self.old self.new) }
 
         // What is refused is too large, or could not be read.
         ensures bad { IfErr result (IsBad (waiting self.old (S.left source.old)) (size self.old)
@@ -121,6 +123,9 @@ impl Lines {
         ensures unfed { result ≡ Err LineStop.ReadFault
             → TakesUnfed (S.left source.old) (S.left source.new) (kept self.old) }
         ensures counted { S.faults source.old ≤ S.faults source.new }
+
+        // Once the end was read, the source is not asked again.
+        ensures unasked { is_ended self.old ≡ true → source.new ≡ source.old }
     {
         match self.gather(source)? {
             Gathered::Fed(at) => match self.settle(alloc, at, 1) {
@@ -205,6 +210,7 @@ impl Lines {
         ensures fault { result ≡ Err LineStop.ReadFault
             → Rose (S.faults source.old) (S.faults source.new) }
         ensures counted { S.faults source.old ≤ S.faults source.new }
+        ensures unasked { is_ended self.old ≡ true → source.new ≡ source.old }
         ensures err { IfErr result IsReadStop }
     {
         let mut seen = 0;
@@ -283,6 +289,7 @@ impl Lines {
             (length (kept self.old)) ≡ None) }
         ensures kept { IfLine result (λ _. kept self.new ≡ []) }
         ensures none { IfNoLine result (kept self.old ≡ []) }
+        ensures still { IfNoLine result ((kept self.new ≡ []) × IsBehind self.old self.new) }
         ensures ended { is_ended self.new ≡ is_ended self.old }
         ensures refused { OnErr result (0 < length (kept self.old)) }
         ensures err { IfErr result (IsSizeStop (size self.old) (length (kept self.old))

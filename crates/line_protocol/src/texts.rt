@@ -1,11 +1,10 @@
-ghost use Rattle.std.specs.Prelude.{◌≡◌, ◌++◌, [], ◌∷◌, ◌<◌, ◌^◌, ℕ, List, Option, length, false, map, codes, string_bytes, IfOk, OnOk};
-ghost use Rattle.base64.specs.Engines.{standard};
+ghost use Rattle.std.specs.Prelude.{◌≡◌, ◌++◌, ◌<◌, ◌^◌, ℕ, List, Option, length, false, map, codes, IfOk};
 ghost use Rattle.chain_msgs.specs.Plain.{Attribute as PlainAttribute, Event as PlainEvent, TxResult as PlainResult, attribute_view, event_view, out_view, failure_view, result_view, genesis_view, answer_view, system_view};
 ghost use Rattle.serde_json.specs.Data.{Data, string, object, member, no_members};
 ghost use Rattle.hex.specs.Hex.{encode_lower};
 ghost use Rattle.sha2.specs.Sha256.{sha256};
 ghost use Rattle.serde_json.specs.View.{view};
-ghost use Rattle.serde_json.specs.Written.{has_float, compact_text};
+ghost use Rattle.serde_json.specs.Written.{has_float};
 ghost use Rattle.line_protocol.specs.Plain.{query_result_view, reply_view};
 ghost use Rattle.line_protocol.specs.Texts.{line_text, variant, binary, list_data, genesis_data, attribute_data, event_data, out_data, success_data, failure_data, result_data, body_data, next_digest, block_data, system_data, answer_data, query_result_data, query_data, kind_text, bad_data};
 

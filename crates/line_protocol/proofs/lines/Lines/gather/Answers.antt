@@ -15,5 +15,6 @@ loop-at-preserved g c =
       unfed = unfed_len _ _ _ c.kept_len-seen.ensures (unfed_drawn _ _ _ _ filled.draws all);
       end = λ h. search rules;
       stays = λ h. filled.ended ∙ before.stays h;
+      unasked = λ h. search rules;
       counted = omega (arith, filled.counted, before.counted);
     }

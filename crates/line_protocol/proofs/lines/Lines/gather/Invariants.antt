@@ -13,6 +13,7 @@ invariant-loop-at g l = record {
   unfed : IsUnfed (kept l.self) 0 l.seen;
   end : KnowsEnd l.self (g.S.Source.left l.source);
   stays : l.fn.self.ended ≡ true → l.self.ended ≡ true;
+  unasked : l.fn.self.ended ≡ true → l.source ≡ l.fn.source;
   counted : g.S.Source.faults l.fn.source ≤ g.S.Source.faults l.source;
 }
 
