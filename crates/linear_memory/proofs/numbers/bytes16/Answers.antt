@@ -1,0 +1,9 @@
+use Rattle.std.proofs.Common.{ap, ◌∙◌, ◌^◌, ◌-◌}
+use lib.Bits.{bit_and, and_mask}
+use Rattle.linear_memory.specs.Numbers.{bytes_of}
+use Rattle.linear_memory.proofs.LittleEndian.{to_le-is, bytes_of-mod}
+use Rattle.linear_memory.proofs.numbers.bytes16.Goals as goal
+
+pub returns : goal.returns
+returns c =
+    c.to_le_bytes.ensures ∙ to_le-is 2 (bit_and c.args.value (2 ^ 16 - 1)) ∙ ap (bytes_of 2) (and_mask c.args.value 16) ∙ bytes_of-mod 2 c.args.value

@@ -1,0 +1,4 @@
+pub mod Examples
+pub mod Numbers
+pub mod Pages
+pub mod Regions

@@ -1,0 +1,11 @@
+//! The memory of a WebAssembly instance: bytes in pages, numbers in them, and the Regions of CosmWasm.
+#![tactic(auto)]
+
+mod memory;
+mod numbers;
+mod region;
+#[cfg(test)]
+mod tests;
+
+pub use memory::{Memory, OutOfBounds};
+pub use region::{RegionBad, RegionFault};
