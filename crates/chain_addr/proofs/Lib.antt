@@ -2,3 +2,4 @@ pub mod Grouping
 pub mod Closing
 pub mod Lettering
 pub mod Joining
+pub mod Ungrouping

@@ -3,3 +3,4 @@ pub mod Checksum
 pub mod Contract
 pub mod Groups
 pub mod Letters
+pub mod Reading

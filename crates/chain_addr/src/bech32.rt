@@ -1,10 +1,14 @@
-ghost use Rattle.std.specs.Prelude.{IfOk, string_bytes};
+ghost use Rattle.std.specs.Prelude.{◌≡◌, ◌↔◌, All, IfOk, IfErr, IsTrue, Ok, string_bytes};
 ghost use Rattle.chain_addr.specs.Bech32.{IsBech32};
 ghost use Rattle.chain_addr.specs.Letters.{IsPrefix};
+ghost use Rattle.chain_addr.specs.Reading.{ReadsAs, IsReported, IsNormal, lower};
 
+use crate::characters::lower;
 use crate::checksum::{after_values, closing_values, of_prefix};
+use crate::fault::{AddrFault, Misread};
 use crate::groups::grouped;
 use crate::letters::push_letters;
+use crate::read::{MOST_BYTES, read};
 use std::alloc::{AllocError, Global};
 
 /// The text of the bytes of an address.
@@ -19,4 +23,35 @@ pub fn encode(alloc: Global, prefix: &str, bytes: &[u8]) -> Result<String, Alloc
     push_letters(&mut text, &groups)?;
     push_letters(&mut text, &check)?;
     Ok(text)
+}
+
+/// The bytes of an address, of its text in lower or in upper case.
+pub fn decode(alloc: Global, prefix: &str, text: &str) -> Result<Vec<u8>, AddrFault>
+    requires { IsPrefix prefix.now }
+    ensures ok { IfOk result (λ bytes. ReadsAs prefix.now text.now (Ok bytes.items)) }
+    ensures bad { IfErr result (λ fault. IsReported prefix.now text.now fault) }
+{
+    let mut buffer = [0; MOST_BYTES];
+    match read(prefix.as_bytes(), text.as_bytes(), &mut buffer) {
+        Ok(count) => match buffer[..count].to_vec(alloc) {
+            Ok(bytes) => Ok(bytes),
+            Err(_) => Err(AddrFault::NoMemory),
+        },
+        Err(Misread { kind, at }) => Err(AddrFault::Bad { kind, at }),
+    }
+}
+
+/// Whether a text is that of an address in lower case. It takes no memory.
+pub fn is_normal(prefix: &str, text: &str) -> bool
+    requires { IsPrefix prefix.now }
+    ensures { IsTrue result ↔ IsNormal prefix.now text.now }
+{
+    let mut buffer = [0; MOST_BYTES];
+    has_no_upper(text.as_bytes()) && read(prefix.as_bytes(), text.as_bytes(), &mut buffer).is_ok()
+}
+
+fn has_no_upper(text: &[u8]) -> bool
+    ensures { IsTrue result ↔ All (λ c. lower c ≡ c) text.now }
+{
+    text.iter().all(|c| lower(*c) == *c)
 }

@@ -18,7 +18,7 @@ fn generated(top: u32) -> u32
 }
 
 #[tactic(auto, unfolding(crate::specs::Checksum::step))]
-fn step(state: u32, value: u8) -> u32
+pub(crate) fn step(state: u32, value: u8) -> u32
     ensures { result ≡ step state value }
 {
     (state % 0x2000000 * 32 + u32::from(value)) ^ generated(state / 0x2000000)

@@ -1,5 +1,5 @@
-ghost use Rattle.std.specs.Prelude.{◌≡◌, ◌<◌, ◌++◌, ◌∷◌, [], All, map, OnOk, string_bytes};
-ghost use Rattle.chain_addr.specs.Letters.{letter_of};
+ghost use Rattle.std.specs.Prelude.{◌≡◌, ◌<◌, ◌++◌, ◌==◌, All, map, position, IfSome, OnOk, string_bytes};
+ghost use Rattle.chain_addr.specs.Letters.{letter_of, letters};
 
 use std::alloc::AllocError;
 
@@ -22,4 +22,12 @@ pub(crate) fn push_letters(text: &mut String, values: &[u8]) -> Result<(), Alloc
         text.push(char::from(letter(*value)))?;
     }
     Ok(())
+}
+
+/// The place of the letter among the letters of bech32.
+pub(crate) fn place_of_letter(letter: u8) -> Option<usize>
+    ensures place { result ≡ position (λ l. l == letter) letters }
+    ensures small { IfSome result (λ place. place < 32) }
+{
+    LETTERS.iter().position(|l| *l == letter)
 }

@@ -2,12 +2,17 @@
 #![tactic(auto)]
 
 mod bech32;
+mod characters;
 mod checksum;
 mod contract;
+mod fault;
 mod groups;
 mod letters;
+mod read;
 #[cfg(test)]
 mod tests;
+mod unpack;
 
-pub use bech32::encode;
+pub use bech32::{decode, encode, is_normal};
 pub use contract::{classic, predictable};
+pub use fault::{AddrFault, AddrKind};

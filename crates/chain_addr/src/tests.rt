@@ -1,4 +1,4 @@
-use crate::{classic, encode, predictable};
+use crate::{AddrFault, AddrKind, classic, decode, encode, is_normal, predictable};
 use sha2::{Digest, Sha256};
 use std::test::Fail;
 
@@ -15,6 +15,60 @@ fn an_address_is_written_in_bech32(rt: HostRuntime) -> Result<(), Fail> {
         "abcdef1qpzry9x8gf2tvdw0s3jn54khce6mua7lmqqqxw"
     );
     assert_eq!(rt; encode(alloc, "a", &[])?.as_str(), "a12uel5l");
+    Ok(())
+}
+
+const TEXT: &str = "abcdef1qpzry9x8gf2tvdw0s3jn54khce6mua7lmqqqxw";
+
+const UPPER: &str = "ABCDEF1QPZRY9X8GF2TVDW0S3JN54KHCE6MUA7LMQQQXW";
+
+#[test]
+fn an_address_is_read_in_either_case(rt: HostRuntime) -> Result<(), Fail> {
+    let alloc = rt.alloc();
+    assert_eq!(rt;
+        decode(alloc, "abcdef", TEXT).ok().map(|bytes| bytes.len()),
+        Some(20)
+    );
+    assert_eq!(rt;
+        decode(alloc, "abcdef", UPPER)
+            .ok()
+            .map(|bytes| bytes.as_slice() == ADDRESS.as_slice()),
+        Some(true)
+    );
+    assert!(rt; is_normal("abcdef", TEXT));
+    assert!(rt; !is_normal("abcdef", UPPER));
+    Ok(())
+}
+
+#[test]
+fn a_text_that_is_no_address_is_refused_with_its_first_fault(rt: HostRuntime) -> Result<(), Fail> {
+    let alloc = rt.alloc();
+    for (text, kind, at) in [
+        ("A12UEL5L", AddrKind::Length, 0),
+        (
+            "abcdef1qpzry9x8gf2tvdw0s3jn54khce6mua7lmqqqxq",
+            AddrKind::Checksum,
+            0,
+        ),
+        ("\x201nwldj5", AddrKind::Character, 0),
+        ("pzry9x0s0muk", AddrKind::Separator, 0),
+        ("1pzry9x0s0muk", AddrKind::Separator, 0),
+        ("x1b4n0q5v", AddrKind::Character, 2),
+        ("li1dgmt3", AddrKind::Separator, 0),
+        ("A1G7SGD8", AddrKind::Checksum, 0),
+        ("a12UEL5L", AddrKind::Mixed, 3),
+        (
+            "abcdef1qpzry9x8gf2tvdw0s3jn54khce6mua7lmqqqxw",
+            AddrKind::Prefix,
+            0,
+        ),
+    ] {
+        assert_eq!(rt;
+            decode(alloc, "a", text).err(),
+            Some(AddrFault::Bad { kind, at }),
+            "{text}"
+        );
+    }
     Ok(())
 }
 
