@@ -1,0 +1,53 @@
+-- Addresses met one by one are distinct where none is met again.
+use Rattle.std.proofs.Common.{◌≡◌, ℕ, ◌+◌, ◌<◌, Bool, true, false, cond, not, ◌||◌, List, [], ◌∷◌, ◌++◌, length, map, take, drop, get_or, refl, sym, ap, ◌∙◌, bytes_eq, string_bytes}
+use Rattle.std.proofs.lemmas.List.{take_more, drop_more}
+use Rattle.std.proofs.lemmas.List.Folds.{list_any-append}
+use Rattle.std.specs.List.{list_any}
+use Rattle.wasmnode.specs.declared.ledger.Account as account_type
+use Rattle.wasmnode.specs.Opening.{are_new, addresses_of}
+use Rattle.wasmnode.specs.Views.{account_view}
+
+abbrev pub names : List account_type.Account → List (List ℕ)
+names accounts = addresses_of (map account_view accounts)
+
+-- whether an address is among these
+abbrev pub is_met : List (List ℕ) → List ℕ → Bool
+is_met before address = list_any (λ other. bytes_eq other address) before
+
+names_push : (accounts : List account_type.Account) (a : account_type.Account) → names (accounts ++ a ∷ []) ≡ names accounts ++ string_bytes a.address ∷ []
+names_push [] a = refl
+names_push (b ∷ accounts) a = ap (λ l. string_bytes b.address ∷ l) (names_push accounts a)
+
+names_more : (all : List account_type.Account) (i : ℕ) (a : account_type.Account) → i < length all → a ≡ get_or all i a → names (take (i + 1) all) ≡ names (take i all) ++ string_bytes a.address ∷ []
+names_more all i a within is =
+    ap names (take_more all i a within ∙ ap (λ x. take i all ++ x ∷ []) (sym is)) ∙ names_push (take i all) a
+
+names_left : (all : List account_type.Account) (i : ℕ) (a : account_type.Account) → i < length all → a ≡ get_or all i a → names (drop i all) ≡ string_bytes a.address ∷ names (drop (i + 1) all)
+names_left all i a within is = ap names (drop_more all i a within ∙ ap (λ x. x ∷ drop (i + 1) all) (sym is))
+
+or_cond : (b c : Bool) → cond b true c ≡ (c || (b || false))
+or_cond true true = refl
+or_cond true false = refl
+or_cond false true = refl
+or_cond false false = refl
+
+pub met_more : (all : List account_type.Account) (i : ℕ) (a : account_type.Account) → i < length all → a ≡ get_or all i a → (address : List ℕ)
+    → cond (bytes_eq (string_bytes a.address) address) true (is_met (names (take i all)) address) ≡ is_met (names (take (i + 1) all)) address
+met_more all i a within is address =
+    or_cond (bytes_eq (string_bytes a.address) address) (is_met (names (take i all)) address)
+    ∙ sym (list_any-append (λ other. bytes_eq other address) (names (take i all)) (string_bytes a.address ∷ []))
+    ∙ ap (λ l. is_met l address) (sym (names_more all i a within is))
+
+new_first : (before : List (List ℕ)) (a : List ℕ) (left : List (List ℕ)) → is_met before a ≡ false → are_new before (a ∷ left) ≡ are_new (before ++ a ∷ []) left
+new_first before a left new = rw new refl
+
+pub new_step : (all : List account_type.Account) (i : ℕ) (a : account_type.Account) → i < length all → a ≡ get_or all i a → is_met (names (take i all)) (string_bytes a.address) ≡ false
+    → are_new (names (take (i + 1) all)) (names (drop (i + 1) all)) ≡ are_new (names (take i all)) (names (drop i all))
+new_step all i a within is new =
+    ap (λ x. are_new x (names (drop (i + 1) all))) (names_more all i a within is)
+    ∙ sym (new_first (names (take i all)) (string_bytes a.address) (names (drop (i + 1) all)) new)
+    ∙ ap (are_new (names (take i all))) (sym (names_left all i a within is))
+
+pub not_true : (b c : Bool) → b ≡ not c → b ≡ true → c ≡ false
+not_true b true is added = cc
+not_true b false is added = refl

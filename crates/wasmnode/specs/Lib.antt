@@ -1,0 +1,7 @@
+pub mod Bank
+pub mod Chain
+pub mod Ledger
+pub mod Opening
+pub mod Sends
+pub mod Stops
+pub mod Views
