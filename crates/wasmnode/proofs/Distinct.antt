@@ -1,10 +1,10 @@
 -- Addresses met one by one are distinct where none is met again.
-use Rattle.std.proofs.Common.{◌≡◌, ℕ, ◌+◌, ◌<◌, Bool, true, false, cond, not, ◌||◌, List, [], ◌∷◌, ◌++◌, length, map, take, drop, get_or, refl, sym, ap, ◌∙◌, bytes_eq, string_bytes}
+use Rattle.std.proofs.Common.{◌≡◌, ℕ, ◌+◌, ◌<◌, Bool, true, false, cond, not, ◌||◌, ◌&&◌, List, [], ◌∷◌, ◌++◌, length, map, take, drop, get_or, refl, sym, ap, ◌∙◌, bytes_eq, string_bytes}
 use Rattle.std.proofs.lemmas.List.{take_more, drop_more}
 use Rattle.std.proofs.lemmas.List.Folds.{list_any-append}
-use Rattle.std.specs.List.{list_any}
+use Rattle.std.specs.List.{list_all, list_any}
 use Rattle.wasmnode.specs.declared.ledger.Account as account_type
-use Rattle.wasmnode.specs.Opening.{are_new, addresses_of}
+use Rattle.wasmnode.specs.Opening.{are_unlike, addresses_of}
 use Rattle.wasmnode.specs.Views.{account_view}
 
 abbrev pub names : List account_type.Account → List (List ℕ)
@@ -13,6 +13,46 @@ names accounts = addresses_of (map account_view accounts)
 -- whether an address is among these
 abbrev pub is_met : List (List ℕ) → List ℕ → Bool
 is_met before address = list_any (λ other. bytes_eq other address) before
+
+-- those left are unlike each other, and none is among those before
+abbrev pub are_new : List (List ℕ) → List (List ℕ) → Bool
+are_new before [] = true
+are_new before (address ∷ addresses) = not (is_met before address) && are_new (before ++ address ∷ []) addresses
+
+abbrev unmet : List (List ℕ) → List (List ℕ) → Bool
+unmet before left = list_all (λ address. not (is_met before address)) left
+
+met_last : (m e a n : Bool) → (not (m || (e || false)) && (a && not n)) ≡ ((not m && a) && not (e || n))
+met_last true e a n = refl
+met_last false true true n = refl
+met_last false true false n = refl
+met_last false false a n = refl
+
+unmet_more : (before : List (List ℕ)) (x : List ℕ) (left : List (List ℕ)) → unmet (before ++ x ∷ []) left ≡ (unmet before left && not (list_any (λ other. bytes_eq x other) left))
+unmet_more before x [] = refl
+unmet_more before x (y ∷ left) =
+    ap (λ m. not m && unmet (before ++ x ∷ []) left) (list_any-append (λ other. bytes_eq other y) before (x ∷ []))
+    ∙ ap (λ u. not (is_met before y || (bytes_eq x y || false)) && u) (unmet_more before x left)
+    ∙ met_last (is_met before y) (bytes_eq x y) (unmet before left) (list_any (λ other. bytes_eq x other) left)
+
+and_shift : (a b c d : Bool) → (a && ((b && c) && d)) ≡ ((a && b) && (c && d))
+and_shift false b c d = refl
+and_shift true false c d = refl
+and_shift true true c d = refl
+
+new_is : (before left : List (List ℕ)) → are_new before left ≡ (unmet before left && are_unlike left)
+new_is before [] = refl
+new_is before (x ∷ left) =
+    let others = not (list_any (λ other. bytes_eq x other) left) in
+    ap (λ n. not (is_met before x) && n) (new_is (before ++ x ∷ []) left ∙ ap (λ u. u && are_unlike left) (unmet_more before x left))
+    ∙ and_shift (not (is_met before x)) (unmet before left) others (are_unlike left)
+
+unmet_none : (left : List (List ℕ)) → unmet [] left ≡ true
+unmet_none [] = refl
+unmet_none (x ∷ left) = unmet_none left
+
+pub new_all : (left : List (List ℕ)) → are_new [] left ≡ are_unlike left
+new_all left = new_is [] left ∙ ap (λ u. u && are_unlike left) (unmet_none left)
 
 names_push : (accounts : List account_type.Account) (a : account_type.Account) → names (accounts ++ a ∷ []) ≡ names accounts ++ string_bytes a.address ∷ []
 names_push [] a = refl

@@ -1,5 +1,9 @@
 pub mod Amounts
+mod Bridge
 pub mod Delivering
 pub mod Distinct
+mod Goings
+pub mod Openings
 pub mod Paying
+mod Stopping
 pub mod Supplies

@@ -1,7 +1,12 @@
 pub mod Bank
 pub mod Chain
+pub mod Halts
 pub mod Ledger
 pub mod Opening
+pub mod Playing
+pub mod Reading
+pub mod Run
 pub mod Sends
 pub mod Stops
 pub mod Views
+pub mod Words

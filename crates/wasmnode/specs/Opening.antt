@@ -1,5 +1,5 @@
 -- What a genesis opens the chain with, where it may.
-use Rattle.std.specs.Prelude.{ℕ, ◌^◌, ◌&&◌, Bool, true, not, List, [], ◌∷◌, ◌++◌, length, map, Option, Some, option_map, sum_by, nat_lt, nat_le, if◌then◌else◌}
+use Rattle.std.specs.Prelude.{ℕ, ◌^◌, ◌&&◌, Bool, true, not, List, [], ◌∷◌, length, map, Option, Some, option_map, sum_by, nat_lt, nat_le, if◌then◌else◌}
 use Rattle.std.specs.List.{list_all, list_any}
 use Rattle.std.specs.Option.{option_map_or}
 use Rattle.std.specs.Result.{result_ok}
@@ -36,16 +36,16 @@ balances_of accounts = λ address denom. sum_by (held_by address denom) accounts
 abbrev pub supply_of : List Account → List ℕ → ℕ
 supply_of accounts denom = sum_by (λ account. amount_in account.coins denom) accounts
 
--- no address stands twice among these, or among those before
-abbrev pub are_new : List (List ℕ) → List (List ℕ) → Bool
-are_new before [] = true
-are_new before (address ∷ addresses) = not (list_any (λ other. bytes_eq other address) before) && are_new (before ++ address ∷ []) addresses
+-- no address stands twice among these
+abbrev pub are_unlike : List (List ℕ) → Bool
+are_unlike [] = true
+are_unlike (address ∷ addresses) = not (list_any (λ other. bytes_eq address other) addresses) && are_unlike addresses
 
 abbrev pub addresses_of : List Account → List (List ℕ)
 addresses_of accounts = map (λ account. account.address) accounts
 
 abbrev pub are_distinct : List Account → Bool
-are_distinct accounts = are_new [] (addresses_of accounts)
+are_distinct accounts = are_unlike (addresses_of accounts)
 
 -- there is no authority, or it is an address
 abbrev pub has_authority : Genesis → Bool

@@ -1,16 +1,22 @@
-ghost use Rattle.std.specs.Prelude.{◌≡◌, ◌+◌, ◌<◌, ◌^◌, ℕ, List, map, OnOk, IfOk};
+ghost use Rattle.std.specs.Prelude.{◌≡◌, ◌+◌, ◌<◌, ◌^◌, map, option_map, OnOk, IfOk};
 ghost use Rattle.serde_json.specs.View.{view};
 ghost use Rattle.chain_msgs.specs.Plain.{result_view};
-ghost use Rattle.line_protocol.specs.Plain.{reply_view};
-ghost use Rattle.wasmnode.specs.Chain.{balance_data, reply_of, answer_line, block_line, chain_next, results_of, balances_after, query_gas};
+ghost use Rattle.chain_msgs.specs.Plain.{genesis_view};
+ghost use Rattle.line_protocol.specs.Plain.{query_result_view, reply_view};
+ghost use Rattle.line_protocol.specs.Reads.{Reads};
+ghost use Rattle.wasmnode.specs.Chain.{balance_data, balance_result, reply_of, answer_line, block_line, chain_start, chain_next, results_of, balances_after};
 ghost use Rattle.wasmnode.specs.Ledger.{balances};
-ghost use Rattle.wasmnode.specs.Views.{chain_view, send_view, ask_view};
+ghost use Rattle.wasmnode.specs.Opening.{opening_of};
+ghost use Rattle.wasmnode.specs.Playing.{entry_text, entry_chain};
+ghost use Rattle.wasmnode.specs.Views.{chain_view, send_view, ask_view, entry_view};
 
 use crate::deliver::deliver;
+use crate::entry::Entry;
 use crate::ledger::Ledger;
+use crate::opening::open;
 use crate::sends::{Ask, Send};
-use chain_msgs::{Answer, TxResult};
-use line_protocol::{QueryReply, QueryResult, block_text, query_text};
+use chain_msgs::{Answer, Genesis, TxResult};
+use line_protocol::{ParseStop, QueryReply, QueryResult, block_text, query_text};
 use serde_json::{Value, json};
 use std::alloc::{AllocError, Global};
 
@@ -21,11 +27,11 @@ const QUERY_GAS: u64 = 1000;
 #[derive(Drop)]
 pub struct Chain {
     /// The gas that a query has.
-    pub query_limit: u64,
-    pub ledger: Ledger,
-    pub height: u64,
+    query_limit: u64,
+    ledger: Ledger,
+    height: u64,
     /// The digest of the newest block.
-    pub digest: [u8; 32],
+    digest: [u8; 32],
 }
 
 /// Does the transactions in order, and says what each did.
@@ -55,6 +61,19 @@ fn balance_value(alloc: Global, denom: &str, amount: u128) -> Result<Value, Allo
 }
 
 impl Chain {
+    /// The chain that a genesis opens.
+    pub fn open(alloc: Global, genesis: &Genesis) -> Result<Chain, ParseStop>
+        ensures { Reads chain_view result
+            (option_map chain_start (opening_of (genesis_view genesis.now))) }
+    {
+        Ok(Chain {
+            query_limit: genesis.query_gas,
+            ledger: open(alloc, genesis)?,
+            height: 0,
+            digest: [0; 32],
+        })
+    }
+
     /// Delivers a block, and gives its line.
     pub fn deliver_block(&mut self, alloc: Global, sends: &[Send]) -> Result<Vec<u8>, AllocError>
         requires { self.old.height + 1 < 2 ^ 64 }
@@ -71,28 +90,34 @@ impl Chain {
         Ok(text)
     }
 
+    /// What a query for a balance finds at the newest height.
+    fn balance_result(&self, alloc: Global, ask: &Ask) -> Result<QueryResult, AllocError>
+        ensures { IfOk result (λ found. query_result_view found
+            ≡ balance_result (chain_view self.now) (ask_view ask.now)) }
+    {
+        let denom = ask.denom.as_str();
+        let amount = self.ledger.balance(ask.address.as_str(), denom);
+        let value = balance_value(alloc, denom, amount)?;
+        Ok(QueryResult::Answer(Answer::Ok(value.to_vec(alloc)?)))
+    }
+
     /// The reply to a query at the newest height.
     fn reply(&self, alloc: Global, ask: &Ask) -> Result<QueryReply, AllocError>
         ensures { IfOk result (λ reply. reply_view reply
             ≡ reply_of (chain_view self.now) (ask_view ask.now) self.now.height) }
     {
-        let mut gas = self.query_limit;
-        let mut found = QueryResult::OutOfGas;
-        if self.query_limit >= QUERY_GAS {
-            let amount = self
-                .ledger
-                .balance(ask.address.as_str(), ask.denom.as_str());
-            let value = balance_value(alloc, ask.denom.as_str(), amount)?;
-            gas = QUERY_GAS;
-            found = QueryResult::Answer(Answer::Ok(value.to_vec(alloc)?));
-        }
+        let (gas, result) = if self.query_limit < QUERY_GAS {
+            (self.query_limit, QueryResult::OutOfGas)
+        } else {
+            (QUERY_GAS, self.balance_result(alloc, ask)?)
+        };
         Ok(QueryReply {
             line: 0,
             client: ask.client,
             n: self.height,
             height: self.height,
             gas,
-            result: found,
+            result,
         })
     }
 
@@ -102,5 +127,19 @@ impl Chain {
             ≡ answer_line (chain_view self.now) (ask_view ask.now) self.now.height) }
     {
         query_text(alloc, &self.reply(alloc, ask)?)
+    }
+
+    /// Delivers a block or answers a query, and gives its line.
+    pub(crate) fn process(&mut self, alloc: Global, entry: &Entry) -> Result<Vec<u8>, AllocError>
+        requires { self.old.height + 1 < 2 ^ 64 }
+        ensures text { IfOk result (λ text. text.items
+            ≡ entry_text (chain_view self.old) (entry_view entry.now)) }
+        ensures next { OnOk result (chain_view self.new
+            ≡ entry_chain (chain_view self.old) (entry_view entry.now)) }
+    {
+        match entry {
+            Entry::Block(sends) => self.deliver_block(alloc, sends),
+            Entry::Query(ask) => self.answer(alloc, ask),
+        }
     }
 }

@@ -110,7 +110,7 @@ impl Holders {
 /// A denom of which an account has less than is wanted.
 #[derive(Drop)]
 pub(crate) struct Shortfall {
-    pub denom: String,
+    pub(crate) denom: String,
     pub(crate) have: u128,
     pub(crate) want: u128,
 }
@@ -118,8 +118,8 @@ pub(crate) struct Shortfall {
 /// An address with the coins that it holds.
 #[derive(Drop)]
 pub(crate) struct Account {
-    pub address: String,
-    pub coins: Coins,
+    pub(crate) address: String,
+    pub(crate) coins: Coins,
 }
 
 /// What every address has of every denom.

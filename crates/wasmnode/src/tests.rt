@@ -1,6 +1,10 @@
-use crate::{Ask, Chain, ask_of, open, sends_of};
-use line_protocol::{Line, parse};
-use std::alloc::Global;
+use crate::node::node;
+use crate::options::Options;
+use crate::serial::serial;
+use crate::status::Status;
+use outside_io::{Failed, MemSink, MemSource, NoShelf, OpenGate, Sink, Source, SureSource};
+use std::alloc::{AllocError, Global};
+use std::io::Write;
 use std::process::Abort;
 use std::test::Fail;
 
@@ -13,9 +17,7 @@ const BLOCK: &str =
 const QUERY: &str =
     r#"{"query":{"client":1,"height":null,"request":{"bank":{"balance":{"address":"abcdef1qpzry9x8gf2tvdw0s3jn54khce6mua7lmqqqxw","denom":"utok"}}}}}"#;
 
-/// Two sends that fail: one has too little gas by one, and one sends a coin more than there is.
-const FAILING: &str =
-    r#"{"block":{"time":"2","txs":[{"gas":1099,"msgs":[{"bank":{"send":{"amount":[{"amount":"1","denom":"utok"}],"to_address":"b"}}}],"sender":"abcdef1qpzry9x8gf2tvdw0s3jn54khce6mua7lmqqqxw"},{"gas":1100,"msgs":[{"bank":{"send":{"amount":[{"amount":"8","denom":"utok"}],"to_address":"b"}}}],"sender":"abcdef1qpzry9x8gf2tvdw0s3jn54khce6mua7lmqqqxw"}]}}"#;
+const GENESIS_ANSWER: &str = r#"{"genesis":{"chain_id":"t-1","height":0}}"#;
 
 const BLOCK_ANSWER: &str =
     r#"{"block":{"body":{"height":1,"results":[{"code":0,"codespace":"","data":[null],"detail":"","events":[{"attributes":[{"key":"recipient","value":"abcdef1qpzry9x8gf2tvdw0s3jn54khce6mua77xk54mu"},{"key":"sender","value":"abcdef1qpzry9x8gf2tvdw0s3jn54khce6mua7lmqqqxw"},{"key":"amount","value":"3utok"}],"type":"transfer"}],"gas":1100}]},"digest":"26c90ca225e9726b90811a2ec3833dcfe7437bd2763ca9c982c0f2203fc4033c"}}"#;
@@ -23,76 +25,283 @@ const BLOCK_ANSWER: &str =
 const QUERY_ANSWER: &str =
     r#"{"query":{"client":1,"gas":1000,"height":1,"n":1,"result":{"ok":{"ok":"eyJhbW91bnQiOnsiYW1vdW50IjoiNyIsImRlbm9tIjoidXRvayJ9fQ=="}}}}"#;
 
+/// Two sends that fail: one has too little gas by one, and one sends a coin more than there is.
+const FAILING: &str =
+    r#"{"block":{"time":"2","txs":[{"gas":1099,"msgs":[{"bank":{"send":{"amount":[{"amount":"1","denom":"utok"}],"to_address":"b"}}}],"sender":"abcdef1qpzry9x8gf2tvdw0s3jn54khce6mua7lmqqqxw"},{"gas":1100,"msgs":[{"bank":{"send":{"amount":[{"amount":"8","denom":"utok"}],"to_address":"b"}}}],"sender":"abcdef1qpzry9x8gf2tvdw0s3jn54khce6mua7lmqqqxw"}]}}"#;
+
 const FAILING_ANSWER: &str =
     r#"{"block":{"body":{"height":2,"results":[{"code":11,"codespace":"sdk","data":[],"detail":"OutOfGas","events":[],"gas":1099},{"code":5,"codespace":"sdk","data":[],"detail":"NotEnough utok 7 8","events":[],"gas":1100}]},"digest":"14dab9498909ff75d1eb1ac27ab88ab7760862ecba34438e7f0252fc0690c550"}}"#;
 
-/// The chain that a genesis line opens.
-fn opened(alloc: Global, text: &str) -> Result<Chain, Fail> {
-    match parse(alloc, 1, text.as_bytes())? {
-        Line::Genesis(genesis) => Ok(Chain {
-            query_limit: genesis.query_gas,
-            ledger: open(alloc, &genesis)?,
-            height: 0,
-            digest: [0; 32],
-        }),
-        _ => Err(Fail::from("no genesis")),
+/// A source that gives at most so many bytes a call.
+#[derive(Drop)]
+struct Slow<S> {
+    source: S,
+    most: usize,
+}
+
+impl<S: Source> Source for Slow<S> {
+    ghost left = { λ s. S.left s.source };
+
+    ghost faults = { λ s. S.faults s.source };
+
+    fn take(&mut self, buf: &mut [u8]) -> Result<usize, Failed> {
+        let most = self.most.clamp(1, buf.len());
+        self.source.take(&mut buf[..most])
     }
 }
 
-/// The line that answers a block line.
-fn delivered(chain: &mut Chain, alloc: Global, text: &str) -> Result<Vec<u8>, Fail> {
-    match parse(alloc, 2, text.as_bytes())? {
-        Line::Block(block) => {
-            let sends = sends_of(alloc, block.txs)?;
-            if chain.height > 9 {
-                return Err(Fail::from("too high"));
-            }
-            Ok(chain.deliver_block(alloc, &sends)?)
-        }
-        _ => Err(Fail::from("no block")),
+/// A sink that takes one byte a call.
+#[derive(Drop)]
+struct Slim<K> {
+    sink: K,
+}
+
+impl<K: Sink> Sink for Slim<K> {
+    ghost written = { λ s. K.written s.sink };
+
+    ghost faults = { λ s. K.faults s.sink };
+
+    fn put(&mut self, piece: &[u8]) -> Result<usize, Failed> {
+        self.sink.put(&piece[..1])
     }
 }
 
-/// What a query line asks.
-fn asked(alloc: Global, text: &str) -> Result<Ask, Fail> {
-    match parse(alloc, 3, text.as_bytes())? {
-        Line::Query(question) => Ok(ask_of(alloc, question)?),
-        _ => Err(Fail::from("no query")),
+/// The status of a run.
+fn run<S: Source, K: Sink>(alloc: Global, source: &mut S, sink: &mut K) -> Status {
+    serial(alloc, &Options::standard(alloc), source, sink, NoShelf)
+}
+
+/// The lines, with a line feed after each.
+fn joined(alloc: Global, lines: &[&str]) -> Result<Vec<u8>, AllocError> {
+    let mut input = Vec::new(alloc);
+    for line in lines {
+        input.extend_from_slice(line.as_bytes())?;
+        input.push(b'\n')?;
     }
+    Ok(input)
 }
 
-fn expect_line(rt: &impl Abort, found: &[u8], wanted: &str) {
-    assert_eq!(rt; found.strip_suffix(b"\n"), Some(wanted.as_bytes()));
-}
-
-#[test]
-fn coins_are_sent_and_seen(rt: HostRuntime) -> Result<(), Fail> {
-    let alloc = rt.alloc();
-    let mut chain = opened(alloc, GENESIS)?;
-    let ask = asked(alloc, QUERY)?;
-    expect_line(&rt, &delivered(&mut chain, alloc, BLOCK)?, BLOCK_ANSWER);
-    expect_line(&rt, &chain.answer(alloc, &ask)?, QUERY_ANSWER);
-    expect_line(&rt, &delivered(&mut chain, alloc, FAILING)?, FAILING_ANSWER);
+/// Runs on an input, and compares the status and what was written.
+fn expect_run(
+    rt: &impl Abort,
+    alloc: Global,
+    input: Vec<u8>,
+    status: Status,
+    wanted: &[u8],
+) -> Result<(), Fail> {
+    let mut source = SureSource::new(input);
+    let mut sink = MemSink::new(alloc, 4096, Vec::new(alloc))?;
+    assert_eq!(rt; run(alloc, &mut source, &mut sink), status);
+    assert_eq!(rt; sink.bytes(), wanted);
     Ok(())
 }
 
 #[test]
-fn a_query_with_too_little_gas_is_not_answered(rt: HostRuntime) -> Result<(), Fail> {
+fn each_line_is_answered(rt: HostRuntime) -> Result<(), Fail> {
     let alloc = rt.alloc();
-    let ask = asked(alloc, QUERY)?;
-    for (limit, wanted) in [
-        (
-            999,
-            r#"{"query":{"client":1,"gas":999,"height":0,"n":0,"result":"out_of_gas"}}"#,
-        ),
-        (
-            1000,
-            r#"{"query":{"client":1,"gas":1000,"height":0,"n":0,"result":{"ok":{"ok":"eyJhbW91bnQiOnsiYW1vdW50IjoiMTAiLCJkZW5vbSI6InV0b2sifX0="}}}}"#,
-        ),
-    ] {
-        let mut chain = opened(alloc, GENESIS)?;
-        chain.query_limit = limit;
-        expect_line(&rt, &chain.answer(alloc, &ask)?, wanted);
+    let input = joined(alloc, &["", GENESIS, " \t\r", BLOCK, QUERY, FAILING, QUERY])?;
+    let last =
+        r#"{"query":{"client":1,"gas":1000,"height":2,"n":2,"result":{"ok":{"ok":"eyJhbW91bnQiOnsiYW1vdW50IjoiNyIsImRlbm9tIjoidXRvayJ9fQ=="}}}}"#;
+    let answers = [
+        GENESIS_ANSWER,
+        BLOCK_ANSWER,
+        QUERY_ANSWER,
+        FAILING_ANSWER,
+        last,
+    ];
+    expect_run(&rt, alloc, input, Status::Done, &joined(alloc, &answers)?)?;
+    let unfed = GENESIS.as_bytes().to_vec(alloc)?;
+    let wanted = joined(alloc, &[GENESIS_ANSWER])?;
+    expect_run(&rt, alloc, unfed, Status::Done, &wanted)
+}
+
+#[test]
+fn a_send_to_oneself_changes_nothing(rt: HostRuntime) -> Result<(), Fail> {
+    let alloc = rt.alloc();
+    let block =
+        r#"{"block":{"time":"1","txs":[{"gas":1100,"msgs":[{"bank":{"send":{"amount":[{"amount":"10","denom":"utok"}],"to_address":"abcdef1qpzry9x8gf2tvdw0s3jn54khce6mua7lmqqqxw"}}}],"sender":"abcdef1qpzry9x8gf2tvdw0s3jn54khce6mua7lmqqqxw"},{"gas":1100,"msgs":[{"bank":{"send":{"amount":[{"amount":"11","denom":"utok"}],"to_address":"abcdef1qpzry9x8gf2tvdw0s3jn54khce6mua7lmqqqxw"}}}],"sender":"abcdef1qpzry9x8gf2tvdw0s3jn54khce6mua7lmqqqxw"}]}}"#;
+    let answer =
+        r#"{"block":{"body":{"height":1,"results":[{"code":0,"codespace":"","data":[null],"detail":"","events":[{"attributes":[{"key":"recipient","value":"abcdef1qpzry9x8gf2tvdw0s3jn54khce6mua7lmqqqxw"},{"key":"sender","value":"abcdef1qpzry9x8gf2tvdw0s3jn54khce6mua7lmqqqxw"},{"key":"amount","value":"10utok"}],"type":"transfer"}],"gas":1100},{"code":5,"codespace":"sdk","data":[],"detail":"NotEnough utok 10 11","events":[],"gas":1100}]},"digest":"35e226fcf69ea9df983cfea407012e619d0b46de16b3eb408ad862c1054e6f1d"}}"#;
+    let input = joined(alloc, &[GENESIS, block])?;
+    let wanted = joined(alloc, &[GENESIS_ANSWER, answer])?;
+    expect_run(&rt, alloc, input, Status::Done, &wanted)
+}
+
+/// Lines, the answers to them before the bad one, and its kind and number.
+const BAD_LINES: &[(&[&str], &[&str], &str, u64)] = &[
+    (&[], &[], "missing", 1),
+    (&["", " \t\r"], &[], "missing", 3),
+    (&[BLOCK], &[], "form", 1),
+    (&["", QUERY], &[], "form", 2),
+    (&[GENESIS, GENESIS], &[GENESIS_ANSWER], "form", 2),
+    (&[GENESIS, r#"{"block":{}}"#], &[GENESIS_ANSWER], "form", 2),
+    (
+        &[GENESIS, BLOCK, "", "{"],
+        &[GENESIS_ANSWER, BLOCK_ANSWER],
+        "form",
+        4,
+    ),
+    // two holdings of one address, and a supply of 2^128
+    (
+        &[
+            r#"{"genesis":{"authority":null,"balances":[{"address":"a","coins":[]},{"address":"a","coins":[]}],"capabilities":[],"chain_id":"t-1","prefix":"abcdef","query_gas":1,"time":"0"}}"#,
+        ],
+        &[],
+        "form",
+        1,
+    ),
+    (
+        &[
+            r#"{"genesis":{"authority":null,"balances":[{"address":"a","coins":[{"amount":"340282366920938463463374607431768211455","denom":"utok"}]},{"address":"b","coins":[{"amount":"1","denom":"utok"}]}],"capabilities":[],"chain_id":"t-1","prefix":"abcdef","query_gas":1,"time":"0"}}"#,
+        ],
+        &[],
+        "form",
+        1,
+    ),
+    // no message, no coin, a number with a fraction, and a height that is asked
+    (
+        &[
+            GENESIS,
+            r#"{"block":{"time":"1","txs":[{"gas":1,"msgs":[],"sender":"a"}]}}"#,
+        ],
+        &[GENESIS_ANSWER],
+        "form",
+        2,
+    ),
+    (
+        &[
+            GENESIS,
+            r#"{"block":{"time":"1","txs":[{"gas":1,"msgs":[{"bank":{"send":{"amount":[],"to_address":"b"}}}],"sender":"a"}]}}"#,
+        ],
+        &[GENESIS_ANSWER],
+        "form",
+        2,
+    ),
+    (
+        &[
+            GENESIS,
+            r#"{"block":{"time":"1","txs":[{"gas":1.0,"msgs":[{"bank":{"send":{"amount":[{"amount":"1","denom":"utok"}],"to_address":"b"}}}],"sender":"a"}]}}"#,
+        ],
+        &[GENESIS_ANSWER],
+        "form",
+        2,
+    ),
+    (
+        &[
+            GENESIS,
+            r#"{"query":{"client":1,"height":0,"request":{"bank":{"balance":{"address":"a","denom":"utok"}}}}}"#,
+        ],
+        &[GENESIS_ANSWER],
+        "form",
+        2,
+    ),
+];
+
+#[test]
+fn a_bad_line_ends_the_run(rt: HostRuntime) -> Result<(), Fail> {
+    let alloc = rt.alloc();
+    for (lines, answers, kind, number) in BAD_LINES {
+        let mut wanted = joined(alloc, answers)?;
+        writeln!(
+            wanted,
+            "{{\"bad_line\":{{\"kind\":\"{kind}\",\"line\":{number}}}}}"
+        )?;
+        expect_run(&rt, alloc, joined(alloc, lines)?, Status::BadLine, &wanted)?;
+    }
+    Ok(())
+}
+
+#[test]
+fn bytes_of_no_text_and_long_lines_are_bad(rt: HostRuntime) -> Result<(), Fail> {
+    let alloc = rt.alloc();
+    let bytes = "{\"bad_line\":{\"kind\":\"form\",\"line\":2}}\n";
+    let long = "{\"bad_line\":{\"kind\":\"long\",\"line\":2}}\n";
+    let cases = [
+        (b'\xff', 1, Status::BadLine, bytes),
+        (b' ', 8_388_608, Status::Done, ""),
+        (b' ', 8_388_609, Status::BadLine, long),
+    ];
+    for (byte, count, status, bad) in cases {
+        let mut input = joined(alloc, &[GENESIS])?;
+        input.extend_from_slice(&vec![in alloc; byte; count]?)?;
+        let mut wanted = joined(alloc, &[GENESIS_ANSWER])?;
+        wanted.extend_from_slice(bad.as_bytes())?;
+        expect_run(&rt, alloc, input, status, &wanted)?;
+    }
+    Ok(())
+}
+
+/// How many lines end within the bytes.
+fn lines_in(bytes: &[u8]) -> usize {
+    bytes.iter().filter(|byte| **byte == b'\n').count()
+}
+
+#[test]
+fn a_failed_read_ends_the_run_after_the_answers_before_it(rt: HostRuntime) -> Result<(), Fail> {
+    let alloc = rt.alloc();
+    let input = joined(alloc, &[GENESIS, BLOCK, QUERY])?;
+    let answers = [GENESIS_ANSWER, BLOCK_ANSWER, QUERY_ANSWER];
+    for call in 0..input.len() / 50 + 2 {
+        let taken = input.len().min(call * 50);
+        let failing = vec![in alloc; call as u64]?;
+        let source = MemSource::new(input.clone()?, failing);
+        let mut slow = Slow { source, most: 50 };
+        let mut sink = MemSink::new(alloc, 4096, Vec::new(alloc))?;
+        let status = run(alloc, &mut slow, &mut sink);
+        assert_eq!(rt; status, Status::ReadFault);
+        let count = lines_in(&input[..taken]).min(answers.len());
+        let wanted = joined(alloc, &answers[..count])?;
+        assert_eq!(rt; sink.bytes(), wanted.as_slice());
+    }
+    Ok(())
+}
+
+#[test]
+fn a_failed_write_ends_the_run_after_the_bytes_before_it(rt: HostRuntime) -> Result<(), Fail> {
+    let alloc = rt.alloc();
+    let input = joined(alloc, &[GENESIS, BLOCK, QUERY])?;
+    let whole = joined(alloc, &[GENESIS_ANSWER, BLOCK_ANSWER, QUERY_ANSWER])?;
+    for call in 0..whole.len() {
+        let mut source = SureSource::new(input.clone()?);
+        let failing = vec![in alloc; call as u64]?;
+        let mut slim = Slim {
+            sink: MemSink::new(alloc, 4096, failing)?,
+        };
+        let status = run(alloc, &mut source, &mut slim);
+        assert_eq!(rt; status, Status::WriteFault);
+        assert_eq!(rt; slim.sink.bytes(), &whole[..call]);
+    }
+    Ok(())
+}
+
+#[test]
+fn other_words_are_answered_with_the_usage(rt: HostRuntime) -> Result<(), Fail> {
+    let alloc = rt.alloc();
+    let usage = "usage: wasmnode run|serial|check|gen N|soak N [options]";
+    let cases: &[(&[&str], Status, &str)] = &[
+        (&["serial"], Status::Done, GENESIS_ANSWER),
+        (&[], Status::Usage, usage),
+        (&["serial", "--stats"], Status::Usage, usage),
+        (&["Serial"], Status::Usage, usage),
+    ];
+    for (texts, status, answer) in cases {
+        let mut words = Vec::new(alloc);
+        for text in *texts {
+            words.push(String::from_str(alloc, text)?)?;
+        }
+        let mut source = SureSource::new(joined(alloc, &[GENESIS])?);
+        let mut sink = MemSink::new(alloc, 4096, Vec::new(alloc))?;
+        let found = node(
+            &rt,
+            alloc,
+            &words,
+            &mut source,
+            &mut sink,
+            NoShelf,
+            &OpenGate,
+        );
+        assert_eq!(rt; found, *status);
+        assert_eq!(rt; sink.bytes(), joined(alloc, &[answer])?.as_slice());
     }
     Ok(())
 }

@@ -1,8 +1,11 @@
 use Rattle.std.proofs.Common.{◌≡◌, ◌∙◌, true, false, cond, sym, ap, string_bytes, bytes_eq}
 use Rattle.std.proofs.lemmas.Map.Text.{btree_set_updates_text}
 use Rattle.std.specs.BTreeSet.{contains_text}
-use Rattle.wasmnode.proofs.Distinct.{met_more, new_step, not_true}
+use Rattle.wasmnode.proofs.Distinct.{names, met_more, new_all, new_step, not_true}
 use Rattle.wasmnode.proofs.opening.are_distinct.Goals as goal
+
+pub loop-account-init : goal.loop-account-init
+loop-account-init c = record { has = λ address. search; left = new_all (names c.args.accounts.now) }
 
 pub loop-account-preserved : goal.loop-account-preserved
 loop-account-preserved c =
