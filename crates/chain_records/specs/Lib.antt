@@ -1,0 +1,9 @@
+pub mod Pieces
+pub mod Keys
+pub mod Records
+pub mod Faults
+pub mod Laws
+pub mod Puts
+pub mod Reading
+pub mod KeyReading
+pub mod RecordReading
