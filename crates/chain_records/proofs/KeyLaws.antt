@@ -115,3 +115,6 @@ no_key bytes e key is = let again : key_of bytes ≡ Some key = ap key_of (sym i
 -- the bytes of a key are those of no other
 pub same_key : (j k : PlainKey) → IsKey j → IsKey k → key_bytes j ≡ key_bytes k → j ≡ k
 same_key j k hj hk e = some_is j k (sym (read_again j hj) ∙ ap key_of e ∙ read_again k hk)
+
+pub tells_keys : (bytes : List ℕ) (one other : PlainKey) → IsKeyOf bytes one → IsKeyOf bytes other → one ≡ other
+tells_keys bytes one other a b = same_key one other a.is_key b.is_key (a.same ∙ sym b.same)

@@ -6,3 +6,4 @@ pub mod RecordPuts
 pub mod Halves
 pub mod PartLaws
 pub mod RecordLaws
+pub mod StateLaws

@@ -243,3 +243,6 @@ no_record key bytes e stored is = let again : stored_of key bytes ≡ Some store
 -- the bytes of a record are those of no other under the same key
 pub same_record : (key : PlainKey) (one other : PlainStored) → Belongs key one → Belongs key other → IsRecord one → IsRecord other → stored_bytes one ≡ stored_bytes other → one ≡ other
 same_record key one other b c h k e = some_is one other (sym (stored_again key one b h) ∙ ap (stored_of key) e ∙ stored_again key other c k)
+
+pub tells_records : (key : PlainKey) (bytes : List ℕ) (one other : PlainStored) → IsRecordUnder key bytes one → IsRecordUnder key bytes other → one ≡ other
+tells_records key bytes one other a b = same_record key one other a.belongs b.belongs a.is_record b.is_record (a.same ∙ sym b.same)

@@ -20,13 +20,13 @@ pub trait Field: Drop {
     ghost written: { Shown → List ℕ };
 
     /// What holds of every value.
-    ghost Is: { Shown → Type 0 };
+    ghost holds: { Shown → Type 0 };
 
     /// What reading one from the front of bytes gives.
     ghost reading: { List ℕ → Option (Shown × List ℕ) };
 
     fn put(&self, bytes: &mut Vec<u8>) -> Result<(), AllocError>
-        ensures { OnOk result (Puts written Is (shown self.now) bytes.old.items bytes.new.items) };
+        ensures { OnOk result (Puts written holds (shown self.now) bytes.old.items bytes.new.items) };
 
     fn read_at(alloc: Global, bytes: &[u8]) -> Result<(Self, &[u8]), Stop>
         ensures { Gives (λ x. (shown x.0, x.1.now)) result (reading bytes.now) };
@@ -48,7 +48,7 @@ pub fn put_bytes(bytes: &mut Vec<u8>, part: &[u8]) -> Result<(), AllocError>
 
 /// Items behind their number.
 pub fn put_list<T: Field>(bytes: &mut Vec<u8>, items: &[T]) -> Result<(), AllocError>
-    ensures { OnOk result (Puts (listed T.written) (AreListed T.Is) (map T.shown items.now)
+    ensures { OnOk result (Puts (listed T.written) (AreListed T.holds) (map T.shown items.now)
         bytes.old.items bytes.new.items) }
 {
     put_number(bytes, items.len() as u64)?;
@@ -61,7 +61,7 @@ pub fn put_list<T: Field>(bytes: &mut Vec<u8>, items: &[T]) -> Result<(), AllocE
 /// A byte that tells whether there is a value, and the value.
 #[tactic(auto, unfolding(crate::specs::Pieces::optional))]
 pub fn put_optional<T: Field>(bytes: &mut Vec<u8>, value: &Option<T>) -> Result<(), AllocError>
-    ensures { OnOk result (Puts (optional T.written) (IsOptional T.Is) (option_map T.shown value.now)
+    ensures { OnOk result (Puts (optional T.written) (IsOptional T.holds) (option_map T.shown value.now)
         bytes.old.items bytes.new.items) }
 {
     match value {
@@ -127,7 +127,7 @@ impl Field for Vec<u8> {
 
     ghost written = { after_length };
 
-    ghost Is = { HasLength };
+    ghost holds = { HasLength };
 
     ghost reading = { bytes_at };
 
@@ -149,7 +149,7 @@ impl Field for String {
 
     ghost written = { after_length };
 
-    ghost Is = { IsText };
+    ghost holds = { IsText };
 
     ghost reading = { text_at };
 
@@ -173,7 +173,7 @@ impl Field for Vec<Vec<u8>> {
 
     ghost written = { listed after_length };
 
-    ghost Is = { AreListed HasLength };
+    ghost holds = { AreListed HasLength };
 
     ghost reading = { list_at bytes_at };
 

@@ -16,7 +16,9 @@ pub use fault::RecordFault;
 pub use key::Key;
 pub use key_reading::key_of;
 pub use key_writing::key_bytes;
-pub use laws::{bytes_tell_keys, bytes_tell_records};
+pub use laws::{
+    bytes_tell_keys, bytes_tell_records, maps_give_records, maps_tell_states, one_record_changes,
+};
 pub use record::{CodeInfo, Contract, Counters, Facts, Stored};
 pub use record_reading::stored_of;
 pub use record_writing::stored_bytes;

@@ -102,6 +102,15 @@ const CODE_INFO: &[u8] = b"\0\0\0\0\0\0\0\x01A\
 
 const CONTRACT: &[u8] = b"\0\0\0\0\0\0\0\x09\0\0\0\0\0\0\0\x01A\0\0\0\0\0\0\0\0\x01l";
 
+const COUNTERS: Counters = Counters {
+    next_code: 1,
+    next_instance: 2,
+};
+
+const TEN: &[u8] = b"\0\0\0\0\0\0\0\0\0\0\0\0\0\0\0\x0a";
+
+const LARGE: &[u8] = b"\xff\xff\xff\xff\xff\xff\xff\xff\xff\xff\xff\xff\xff\xff\xff\0";
+
 fn bytes(alloc: Global, text: &str) -> Result<Vec<u8>, AllocError> {
     Vec::from_slice(alloc, text.as_bytes())
 }
@@ -118,7 +127,8 @@ fn facts(alloc: Global) -> Result<Facts, AllocError> {
     })
 }
 
-fn records(alloc: Global) -> Result<Vec<(Key, Stored, Vec<u8>)>, AllocError> {
+/// Records that are made of parts.
+fn records_of_parts(alloc: Global) -> Result<Vec<(Key, Stored, Vec<u8>)>, AllocError> {
     let allow = vec![in alloc; bytes(alloc, "BC")?]?;
     let info = CodeInfo {
         creator: bytes(alloc, "A")?,
@@ -139,51 +149,53 @@ fn records(alloc: Global) -> Result<Vec<(Key, Stored, Vec<u8>)>, AllocError> {
         ),
         (
             Key::Counters,
-            Stored::Counters(Counters {
-                next_code: 1,
-                next_instance: 2,
-            }),
-            Vec::from_slice(alloc, b"\0\0\0\0\0\0\0\x01\0\0\0\0\0\0\0\x02")?,
-        ),
-        (
-            Key::Supply(String::from_str(alloc, "utok")?),
-            Stored::Amount(10),
-            Vec::from_slice(alloc, b"\0\0\0\0\0\0\0\0\0\0\0\0\0\0\0\x0a")?,
-        ),
-        (
-            Key::Balance {
-                addr: bytes(alloc, "A")?,
-                denom: String::from_str(alloc, "utok")?,
-            },
-            Stored::Amount(u128::MAX - 255),
-            Vec::from_slice(
-                alloc,
-                b"\xff\xff\xff\xff\xff\xff\xff\xff\xff\xff\xff\xff\xff\xff\xff\0"
-            )?,
-        ),
-        (
-            Key::Code(1),
-            Stored::CodeBytes(bytes(alloc, "code")?),
-            bytes(alloc, "code")?,
+            Stored::Counters(COUNTERS),
+            Vec::from_slice(alloc, b"\0\0\0\0\0\0\0\x01\0\0\0\0\0\0\0\x02")?
         ),
         (
             Key::CodeInfo(1),
             Stored::CodeInfo(info),
-            Vec::from_slice(alloc, CODE_INFO)?,
+            Vec::from_slice(alloc, CODE_INFO)?
         ),
-        (Key::Pin(1), Stored::Mark, Vec::from_slice(alloc, b"\x01")?),
         (
             Key::Contract(bytes(alloc, "A")?),
             Stored::Contract(contract),
-            Vec::from_slice(alloc, CONTRACT)?,
+            Vec::from_slice(alloc, CONTRACT)?
+        ),
+    ]?)
+}
+
+fn plain_records(alloc: Global) -> Result<Vec<(Key, Stored, Vec<u8>)>, AllocError> {
+    let denom = String::from_str(alloc, "utok")?;
+    let balance = Key::Balance {
+        addr: bytes(alloc, "A")?,
+        denom: String::from_str(alloc, "utok")?,
+    };
+    let storage = Key::Storage {
+        addr: bytes(alloc, "A")?,
+        key: Vec::new(alloc),
+    };
+    Ok(vec![in alloc;
+        (
+            Key::Supply(denom),
+            Stored::Amount(10),
+            Vec::from_slice(alloc, TEN)?
         ),
         (
-            Key::Storage {
-                addr: bytes(alloc, "A")?,
-                key: Vec::new(alloc),
-            },
+            balance,
+            Stored::Amount(u128::MAX - 255),
+            Vec::from_slice(alloc, LARGE)?
+        ),
+        (
+            Key::Code(1),
+            Stored::CodeBytes(bytes(alloc, "code")?),
+            bytes(alloc, "code")?
+        ),
+        (Key::Pin(1), Stored::Mark, bytes(alloc, "\x01")?),
+        (
+            storage,
             Stored::Value(bytes(alloc, "v")?),
-            bytes(alloc, "v")?,
+            bytes(alloc, "v")?
         ),
     ]?)
 }
@@ -191,9 +203,11 @@ fn records(alloc: Global) -> Result<Vec<(Key, Stored, Vec<u8>)>, AllocError> {
 #[test]
 fn records_are_written_and_read_again(rt: HostRuntime) -> Result<(), Fail> {
     let alloc = rt.alloc();
-    for (key, stored, bytes) in &records(alloc)? {
-        assert_eq!(rt; stored_bytes(alloc, stored)?, *bytes);
-        assert_eq!(rt; stored_of(alloc, key, bytes).ok().as_ref(), Some(stored));
+    for records in [records_of_parts(alloc)?, plain_records(alloc)?] {
+        for (key, stored, bytes) in &records {
+            assert_eq!(rt; stored_bytes(alloc, stored)?, *bytes);
+            assert_eq!(rt; stored_of(alloc, key, bytes).ok().as_ref(), Some(stored));
+        }
     }
     Ok(())
 }

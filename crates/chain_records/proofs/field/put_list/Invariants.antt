@@ -6,4 +6,4 @@ use Rattle.chain_records.proofs.field.put_list.Given as goal
 
 abbrev pub invariant-loop-item : goal.invariant-loop-item
 invariant-loop-item g l =
-    Remains g.T.Field.written g.T.Field.Is (map g.T.Field.shown l.items) ((l.fn.bytes.items ++ be8 (length (map g.T.Field.shown l.items))) ++ flat_map g.T.Field.written (map g.T.Field.shown l.items)) l.bytes.items (map g.T.Field.shown (drop l.item-index l.items))
+    Remains g.T.Field.written g.T.Field.holds (map g.T.Field.shown l.items) ((l.fn.bytes.items ++ be8 (length (map g.T.Field.shown l.items))) ++ flat_map g.T.Field.written (map g.T.Field.shown l.items)) l.bytes.items (map g.T.Field.shown (drop l.item-index l.items))
