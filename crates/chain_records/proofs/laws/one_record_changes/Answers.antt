@@ -1,0 +1,5 @@
+use Rattle.chain_records.proofs.StateLaws.{spells_written, spells_removed}
+use Rattle.chain_records.proofs.laws.one_record_changes.Goals as goal
+
+pub returns : goal.returns
+returns c = record { written = spells_written; removed = spells_removed }

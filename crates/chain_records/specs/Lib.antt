@@ -1,0 +1,11 @@
+pub mod Pieces
+pub mod Keys
+pub mod Records
+pub mod State
+pub mod Faults
+pub mod Laws
+pub mod Examples
+pub mod Puts
+pub mod Reading
+pub mod KeyReading
+pub mod RecordReading

@@ -1,0 +1,12 @@
+pub mod Halves
+pub mod Numbers
+pub mod Runs
+pub mod Joining
+pub mod Least
+pub mod LeastNumbers
+pub mod LeastParts
+pub mod Shapes
+pub mod LeastLocals
+pub mod LeastBody
+pub mod LeastModule
+pub mod SampleSpellings

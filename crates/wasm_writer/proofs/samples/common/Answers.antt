@@ -1,0 +1,14 @@
+use Rattle.std.proofs.Common.{subst, sym}
+use Rattle.wasm_types.specs.Plain.{PlainModule}
+use Rattle.wasm_writer.specs.Samples.{common_module}
+use Rattle.wasm_writer.specs.Shortest.{HasSpelling}
+use Rattle.wasm_writer.proofs.SampleSpellings.{common_spelled}
+use Rattle.wasm_writer.proofs.samples.common.Goals as goal
+
+pub returns-clause-module : goal.returns-clause-module
+unfolding common_module
+returns-clause-module c = c.in_ok-sample.ensures
+
+pub returns-clause-spelled : goal.returns-clause-spelled
+unfolding common_module
+returns-clause-spelled c = subst (λ (m : PlainModule). HasSpelling m) (sym c.in_ok-sample.ensures) common_spelled

@@ -1,0 +1,4 @@
+pub mod ShortNumber
+pub mod Spelling
+pub mod Shortest
+pub mod Samples
