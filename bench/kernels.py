@@ -6,7 +6,7 @@ usage: bench/kernels.py [PROGRAM]
 PROGRAM is crates/bench_kernels/out/bench_kernels if it isn't given: `rt run -- binary_add 1000` in
 crates/bench_kernels leaves it there. First the checksum of each kernel at a small count is compared with
 what Python makes of the same work. Each time is the least processor time of five runs, less that of a run
-that only prepares.
+that only prepares. The time of layers_keep includes that of putting each change into its layer first.
 """
 
 import os
@@ -14,7 +14,8 @@ import subprocess
 import sys
 import tempfile
 
-import modules
+sys.dont_write_bytecode = True
+import modules  # noqa: E402
 
 PROGRAM = "crates/bench_kernels/out/bench_kernels"
 RUNS = 5
