@@ -1,0 +1,81 @@
+ghost use Rattle.linear_memory.specs.Numbers.{IsWidth};
+
+use crate::kernel::Kernel;
+use crate::{gas, memory, modules, numbers, state};
+use anyhow::{Result, anyhow};
+use std::alloc::{AllocError, Global};
+use std::io::Read;
+
+const ADD: u8 = 0x6A;
+
+const DIV_S: u8 = 0x7F;
+
+fn add(alloc: Global, count: u32) -> Result<u64, AllocError> {
+    let code = numbers::code_of(alloc, ADD)?;
+    Ok(numbers::binary_add(&code, count))
+}
+
+fn divide(alloc: Global, count: u32) -> Result<u64, AllocError> {
+    let code = numbers::code_of(alloc, DIV_S)?;
+    Ok(numbers::binary_div(&code, count))
+}
+
+fn load(alloc: Global, width: u8, count: u32) -> Result<u64, AllocError>
+    requires { IsWidth width }
+{
+    let memory = memory::filled(alloc)?;
+    Ok(memory::load(&memory, width, count))
+}
+
+fn store(alloc: Global, width: u8, count: u32) -> Result<u64, AllocError>
+    requires { IsWidth width }
+{
+    let mut memory = memory::filled(alloc)?;
+    Ok(memory::store(&mut memory, width, count))
+}
+
+fn charge(alloc: Global, count: u32) -> Result<u64, AllocError> {
+    let costs = gas::costs(alloc)?;
+    Ok(gas::charge(&costs, count))
+}
+
+/// Reads the module on standard input so often.
+fn read_module(rt: &(impl Input + AllocGlobal), count: u32) -> Result<u64> {
+    let mut bytes = Vec::new(rt.alloc());
+    rt.reader().read_to_end(&mut bytes)?;
+    match modules::read_module(rt.alloc(), &bytes, count) {
+        Ok(sum) => Ok(sum),
+        Err(stop) => Err(anyhow!("the module cannot be read: {stop:?}")),
+    }
+}
+
+/// The work on layers over a base of so many keys.
+fn layers(alloc: Global, kernel: Kernel, count: u32) -> Result<u64, AllocError> {
+    let layers = state::layers(alloc, count)?;
+    match kernel {
+        Kernel::LayersGet => state::get(alloc, &layers, count),
+        Kernel::LayersNext => state::next(alloc, &layers, count),
+        Kernel::LayersKeep => state::keep_all(alloc, layers, count),
+        _ => Ok(layers.depth() as u64),
+    }
+}
+
+/// Does the work of a kernel so often, and answers its checksum.
+pub fn run(rt: &(impl Input + AllocGlobal), kernel: Kernel, count: u32) -> Result<u64> {
+    let alloc = rt.alloc();
+    let sum = match kernel {
+        Kernel::BinaryAdd => add(alloc, count)?,
+        Kernel::BinaryDiv => divide(alloc, count)?,
+        Kernel::Load1 => load(alloc, 1, count)?,
+        Kernel::Load2 => load(alloc, 2, count)?,
+        Kernel::Load4 => load(alloc, 4, count)?,
+        Kernel::Load8 => load(alloc, 8, count)?,
+        Kernel::Store8 => store(alloc, 8, count)?,
+        Kernel::Charge => charge(alloc, count)?,
+        Kernel::ReadModule => read_module(rt, count)?,
+        Kernel::LayersNew | Kernel::LayersGet | Kernel::LayersNext | Kernel::LayersKeep => layers(
+            alloc, kernel, count,
+        )?,
+    };
+    Ok(sum)
+}
