@@ -1,3 +1,5 @@
+ghost use Rattle.std.specs.Prelude.{None};
+
 use crate::node::node;
 use crate::options::Options;
 use crate::serial::serial;
@@ -16,6 +18,10 @@ const BLOCK: &str =
 
 const QUERY: &str =
     r#"{"query":{"client":1,"height":null,"request":{"bank":{"balance":{"address":"abcdef1qpzry9x8gf2tvdw0s3jn54khce6mua7lmqqqxw","denom":"utok"}}}}}"#;
+
+/// The same query; of a repeated field the last one counts.
+const REPEATED: &str =
+    r#"{"query":{"client":2,"client":1,"height":null,"request":{"bank":{"balance":{"address":"abcdef1qpzry9x8gf2tvdw0s3jn54khce6mua7lmqqqxw","denom":"utok"}}}}}"#;
 
 const GENESIS_ANSWER: &str = r#"{"genesis":{"chain_id":"t-1","height":0}}"#;
 
@@ -99,7 +105,10 @@ fn expect_run(
 #[test]
 fn each_line_is_answered(rt: HostRuntime) -> Result<(), Fail> {
     let alloc = rt.alloc();
-    let input = joined(alloc, &["", GENESIS, " \t\r", BLOCK, QUERY, FAILING, QUERY])?;
+    let input = joined(
+        alloc,
+        &["", GENESIS, " \t\r", BLOCK, REPEATED, FAILING, QUERY],
+    )?;
     let last =
         r#"{"query":{"client":1,"gas":1000,"height":2,"n":2,"result":{"ok":{"ok":"eyJhbW91bnQiOnsiYW1vdW50IjoiNyIsImRlbm9tIjoidXRvayJ9fQ=="}}}}"#;
     let answers = [
@@ -228,6 +237,64 @@ fn bytes_of_no_text_and_long_lines_are_bad(rt: HostRuntime) -> Result<(), Fail> 
         wanted.extend_from_slice(bad.as_bytes())?;
         expect_run(&rt, alloc, input, status, &wanted)?;
     }
+    Ok(())
+}
+
+/// A block without transactions, with so many lists in one another in a field that says nothing.
+fn nested(alloc: Global, lists: usize) -> Result<Vec<u8>, AllocError> {
+    let mut text = joined(alloc, &[GENESIS])?;
+    text.extend_from_slice(b"{\"block\":{\"time\":\"1\",\"txs\":[],\"x\":")?;
+    text.extend_from_slice(&vec![in alloc; b'['; lists]?)?;
+    text.extend_from_slice(&vec![in alloc; b']'; lists]?)?;
+    text.extend_from_slice(b"}}\n")?;
+    Ok(text)
+}
+
+#[test]
+fn nesting_goes_to_127(rt: HostRuntime) -> Result<(), Fail> {
+    let alloc = rt.alloc();
+    let empty =
+        r#"{"block":{"body":{"height":1,"results":[]},"digest":"cadfaeb8366154faf4b42ad0be17d2f2e5341a0be9053a292284dd54d85ff285"}}"#;
+    let bad = r#"{"bad_line":{"kind":"form","line":2}}"#;
+    for (lists, status, answer) in [(125, Status::Done, empty), (126, Status::BadLine, bad)] {
+        let wanted = joined(alloc, &[GENESIS_ANSWER, answer])?;
+        expect_run(&rt, alloc, nested(alloc, lists)?, status, &wanted)?;
+    }
+    Ok(())
+}
+
+/// A source of so many bytes, which are lines of blanks.
+#[derive(Drop)]
+struct Blanks {
+    left: usize,
+}
+
+impl Source for Blanks {
+    ghost left = { λ _. None };
+
+    ghost faults = { λ _. 0 };
+
+    fn take(&mut self, buf: &mut [u8]) -> Result<usize, Failed> {
+        let count = self.left.min(buf.len());
+        buf.fill(b' ');
+        if count > 0 {
+            buf[count - 1] = b'\n';
+        }
+        self.left -= count;
+        Ok(count)
+    }
+}
+
+#[test]
+fn an_input_has_at_most_a_gibibyte(rt: HostRuntime) -> Result<(), Fail> {
+    let alloc = rt.alloc();
+    let mut source = Blanks {
+        left: 1_073_741_825,
+    };
+    let mut sink = MemSink::new(alloc, 4096, Vec::new(alloc))?;
+    assert_eq!(rt; run(alloc, &mut source, &mut sink), Status::BadLine);
+    let wanted = joined(alloc, &[r#"{"bad_line":{"kind":"total","line":65537}}"#])?;
+    assert_eq!(rt; sink.bytes(), wanted.as_slice());
     Ok(())
 }
 
