@@ -1,0 +1,15 @@
+pub mod Orders
+pub mod Records
+pub mod Sums
+pub mod Written
+pub mod Found
+pub mod Writing
+pub mod Paying
+pub mod Changed
+pub mod Sending
+pub mod Burning
+pub mod Places
+pub mod NextCoin
+pub mod Holding
+pub mod Room
+pub mod Opening

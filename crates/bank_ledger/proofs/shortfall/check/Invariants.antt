@@ -1,0 +1,12 @@
+-- The coins left have the shortfall that all have.
+use Rattle.std.proofs.Common.{◌≡◌, map, drop}
+use Rattle.chain_records.specs.State.{State}
+use Rattle.coin_amounts.specs.Coins.{coins_view}
+use Rattle.coin_amounts.specs.Plain.{coin_view}
+use Rattle.bank_ledger.specs.Balances.{shortfall}
+use Rattle.bank_ledger.specs.Accounts.{balance}
+use Rattle.bank_ledger.specs.Spelled.{OfEach}
+use Rattle.bank_ledger.proofs.shortfall.check.Given as goal
+
+abbrev pub invariant-loop-coin : goal.invariant-loop-coin
+invariant-loop-coin g l = OfEach (g.B.Base.stands_for l.fn.view) (λ (s : State). shortfall (balance s) l.fn.from (map coin_view (drop l.coin-index l.coins.list.items)) ≡ shortfall (balance s) l.fn.from (coins_view l.fn.coins))

@@ -1,0 +1,19 @@
+//! The bank: balances and supplies of the chain's state, and coins that are sent and burned.
+#![tactic(auto)]
+
+mod amounts;
+mod burns;
+mod holdings;
+mod keys;
+mod readers;
+mod sends;
+mod shortfall;
+mod stop;
+#[cfg(test)]
+mod tests;
+
+pub use burns::burn;
+pub use holdings::all_balances;
+pub use readers::{balance, supply};
+pub use sends::send;
+pub use stop::BankStop;
