@@ -1,0 +1,10 @@
+pub mod Storage
+pub mod Scans
+pub mod Store
+pub mod Ends
+pub mod Places
+pub mod Givens
+pub mod Views
+pub mod Effects
+pub mod Examples
+pub mod Typed

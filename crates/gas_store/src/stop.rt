@@ -1,0 +1,34 @@
+ghost use Rattle.std.specs.Prelude.{◌≡◌};
+ghost use Rattle.gas_store.specs.declared.stop.StoreStop.TheVariants.{NoMemory};
+
+use std::alloc::{AllocError, AllocFailed};
+
+/// Why a call on a contract's storage did nothing.
+#[derive(Clone, Copy, Debug, PartialEq, Eq)]
+pub enum StoreStop {
+    /// The cost was more than what was left. All gas is used.
+    OutOfGas,
+    /// A write or a removal in a query.
+    WriteInQuery,
+    EmptyValue,
+    NoSuchScan,
+    /// A call has at most 65,536 scans, and their bounds have at most 16 MiB together.
+    TooManyScans,
+    NoMemory,
+}
+
+impl From<AllocError> for StoreStop {
+    ghost from_gives = { λ _ stop. stop ≡ NoMemory };
+
+    fn from(_error: AllocError) -> StoreStop {
+        StoreStop::NoMemory
+    }
+}
+
+impl<T: Drop> From<AllocFailed<T>> for StoreStop {
+    ghost from_gives = { λ _ stop. stop ≡ NoMemory };
+
+    fn from(_error: AllocFailed<T>) -> StoreStop {
+        StoreStop::NoMemory
+    }
+}
