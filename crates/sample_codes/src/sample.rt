@@ -1,6 +1,7 @@
 ghost use Rattle.std.specs.Prelude.{◌≡◌, IfOk, IfSome, None, string_bytes, map};
 ghost use Rattle.wasm_types.specs.Plain.{plain_module};
-ghost use Rattle.wasm_writer.specs.Shortest.{HasSpelling, IsShortest};
+ghost use Rattle.wasm_types.specs.ModuleText.{HasSpelling};
+ghost use Rattle.wasm_writer.specs.Shortest.{IsShortest};
 ghost use Rattle.wasm_writer.specs.Spelling.{spelling_of};
 ghost use Rattle.sample_codes.specs.Samples.{Names, NamesNone, module_of};
 

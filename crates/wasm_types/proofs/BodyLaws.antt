@@ -1,5 +1,5 @@
 -- The code of a function is lawful.
-use Rattle.std.proofs.Common.{◌≡◌, ℕ, zero, suc, ◌+◌, ◌-◌, ◌≤◌, ◌<◌, Bool, true, false, List, [], ◌∷◌, ◌++◌, length, replicate, Option, Some, None, Result, Ok, Err, refl, sym, ap, subst, ◌∙◌, append_assoc, add-zero, arith}
+use Rattle.std.proofs.Common.{◌≡◌, ℕ, zero, suc, ◌+◌, ◌≤◌, ◌<◌, Bool, true, false, List, [], ◌∷◌, ◌++◌, length, replicate, Ok, refl, sym, ap, ◌∙◌, append_assoc, add-zero, arith}
 use Rattle.std.specs.Prelude.{nat_le}
 use Rattle.std.proofs.lemmas.List.{append-nil, length-append}
 use Rattle.wasm_types.specs.declared.kind.ReadKind.TheVariants.{Cut, Nesting, Reserved, Locals}
@@ -7,9 +7,9 @@ use Rattle.wasm_types.specs.declared.value.ValType.{ValType}
 use Rattle.wasm_types.specs.declared.opcode.Shape.{Shape}
 use Rattle.wasm_types.specs.declared.opcode.Shape.TheVariants as shapes
 use Rattle.wasm_types.specs.declared.instr.Instr.{Instr}
-use Rattle.wasm_types.specs.Place.{Place, Reading, then_read}
+use Rattle.wasm_types.specs.Place.{Place, then_read}
 use Rattle.wasm_types.specs.Opcodes.{shape}
-use Rattle.wasm_types.specs.Part.{Part, Joins, marker, index}
+use Rattle.wasm_types.specs.Part.{marker}
 use Rattle.wasm_types.specs.Body.{max_locals, group, AreGroups, groups_read, groups_of, locals, nested, opcode, block_type_of, block_type, reserved, br_table, memory_access, call_indirect, operands, instr, blocks_after, IsBody, with_front, body_read, body, code}
 use Rattle.wasm_types.proofs.Lawful.{Lawful, Anything, Took, took_is, here, read_of, bind_ok, ok_is, lawful_done, lawful_bind, lawful_byte_or, lawful_number, lawful_judged, lawful_vector}
 use Rattle.wasm_types.proofs.PartLaws.{lawful_val_type}
@@ -106,7 +106,7 @@ unfolding instr
 lawful_instr first may_else = lawful_bind (lawful_opcode may_else) (λ o. lawful_operands first o.0 o.1)
 
 -- an instruction has a byte
-instr_some : (first : ℕ) (may_else : Bool) (text : List ℕ) (x : Instr × List ℕ) → (instr first may_else).Spells text x → 0 < length text
+pub instr_some : (first : ℕ) (may_else : Bool) (text : List ℕ) (x : Instr × List ℕ) → (instr first may_else).Spells text x → 0 < length text
 unfolding instr opcode
 instr_some first may_else text x s =
     omega (arith, ap length s.cut, length-append s.front s.back, ap length s.first.1)

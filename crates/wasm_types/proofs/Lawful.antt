@@ -1,12 +1,11 @@
 -- What holds of each part: what is read is spelled, and what is spelled is read again, whatever follows that may follow.
-use Rattle.std.proofs.Common.{◌≡◌, ℕ, zero, suc, ◌+◌, ◌-◌, ◌≤◌, ◌<◌, Bool, true, false, cond, ltb, List, [], ◌∷◌, ◌++◌, length, take, drop, Option, Some, None, Result, Ok, Err, refl, sym, ap, subst, ◌∙◌, append_assoc, add-zero, arith, inl, inr}
-use Rattle.std.proofs.lemmas.Bool.{lt-ltb, le-ltb, ltb-false}
+use Rattle.std.proofs.Common.{◌≡◌, ℕ, zero, suc, ◌+◌, ◌≤◌, Bool, true, false, ltb, List, [], ◌∷◌, ◌++◌, length, Option, Some, None, Result, Ok, Err, refl, sym, ap, subst, ◌∙◌, append_assoc, add-zero, arith}
+use Rattle.std.proofs.lemmas.Bool.{le-ltb, ltb-false}
 use Rattle.std.proofs.lemmas.List.{append-nil, length-append, length-take, take_at, drop_at, take-append-drop}
 use Rattle.wasm_types.specs.declared.kind.ReadKind.{ReadKind}
-use Rattle.wasm_types.specs.declared.kind.ReadKind.TheVariants.{Cut}
-use Rattle.wasm_types.specs.Place.{Place, Broken, Reading, then_read, breaks}
+use Rattle.wasm_types.specs.Place.{Place, Reading, then_read}
 use Rattle.wasm_types.specs.Number.{IsNumber, number_at, number_read, number_or}
-use Rattle.wasm_types.specs.Part.{Part, Joins, done, ◌>>=◌, judged, passing, next_of, next_read, known, byte_or, number, index, anything, IsRepeated, times_read, times, vector, long_enough, length_read, part_read, used_up, used_up_read, inside, behind, sized_read, sized}
+use Rattle.wasm_types.specs.Part.{Part, done, ◌>>=◌, judged, passing, next_of, next_read, known, byte_or, number, index, anything, IsRepeated, times_read, times, vector, long_enough, length_read, part_read, used_up, used_up_read, inside, behind, sized_read, sized}
 use Rattle.wasm_types.proofs.NumberLaws.{number_sound, number_again}
 
 abbrev pub read_of : {A : Type 0} → A × Place → Reading A

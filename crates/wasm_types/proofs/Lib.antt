@@ -5,3 +5,4 @@ pub mod PartLaws
 pub mod BodyLaws
 pub mod ModuleLaws
 pub mod TextLaws
+pub mod Shaped

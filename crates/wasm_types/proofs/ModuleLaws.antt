@@ -1,5 +1,5 @@
 -- A whole module is lawful: what is read is spelled by all the bytes, and what is spelled is read.
-use Rattle.std.proofs.Common.{◌≡◌, ℕ, zero, suc, ◌+◌, ◌-◌, ◌≤◌, ◌<◌, Bool, true, false, cond, eqb, List, [], ◌∷◌, ◌++◌, length, drop, Result, Ok, Err, refl, sym, ap, subst, ◌∙◌, append_assoc, add-zero, eq-eqb, lit<, arith, ◌⊎◌, inl, inr}
+use Rattle.std.proofs.Common.{◌≡◌, ℕ, zero, suc, ◌+◌, ◌≤◌, ◌<◌, Bool, true, false, cond, eqb, List, [], ◌∷◌, ◌++◌, length, drop, Ok, Err, refl, sym, ap, ◌∙◌, append_assoc, add-zero, eq-eqb, lit<, arith, inl, inr}
 use Rattle.std.specs.Prelude.{nat_eq}
 use Rattle.std.specs.List.{starts_with}
 use Rattle.std.proofs.lemmas.Bool.{eqb-true, ne_eqb}
@@ -8,9 +8,8 @@ use Rattle.std.proofs.lemmas.List.{append-nil, length-append, drop_at}
 use Rattle.std.proofs.lemmas.Slice.Eq.{starts_is}
 use Rattle.wasm_types.specs.declared.kind.ReadKind.{ReadKind}
 use Rattle.wasm_types.specs.declared.kind.ReadKind.TheVariants.{Cut, Magic, Section, Count}
-use Rattle.wasm_types.specs.Plain.{PlainModule}
 use Rattle.wasm_types.specs.Place.{Place, Reading, then_read, breaks}
-use Rattle.wasm_types.specs.Part.{Part, Joins, done, ◌>>=◌, byte, marker, exactly, word_read, anything, sized, sized_read, vector}
+use Rattle.wasm_types.specs.Part.{Part, done, ◌>>=◌, marker, exactly, word_read}
 use Rattle.wasm_types.specs.ModuleText.{header, begins, named_bytes, custom, AreCustoms, customs_read, customs, numbered, where_present, section_read, section, end_from, end_read, input_end, module_part}
 use Rattle.wasm_types.proofs.Lawful.{Lawful, Anything, Nothing, Took, took_is, here, read_of, bind_ok, ok_is, narrower, lawful_done, lawful_join, lawful_bind, lawful_byte_or, lawful_number, lawful_anything, lawful_vector, lawful_sized}
 use Rattle.wasm_types.proofs.PartLaws.{lawful_text, lawful_func_type, lawful_table, lawful_limits, lawful_import, lawful_export, lawful_global, lawful_elem, lawful_seg}

@@ -1,5 +1,5 @@
 -- Each part of sections is lawful.
-use Rattle.std.proofs.Common.{ℕ, zero, suc, Bool, true, false, List, Option, Some, None}
+use Rattle.std.proofs.Common.{ℕ, zero, suc, Bool, true, false, Some, None}
 use Rattle.std.specs.Prelude.{nat_le}
 use Rattle.std.specs.Str.{is_utf8}
 use Rattle.wasm_types.specs.declared.kind.ReadKind.TheVariants.{Cut, Name, Form, ValueType, Results}
@@ -8,7 +8,7 @@ use Rattle.wasm_types.specs.declared.sort.Sort.TheVariants as sorts
 use Rattle.wasm_types.specs.declared.opcode.ConstOp.{ConstOp}
 use Rattle.wasm_types.specs.declared.opcode.ConstOp.TheVariants as consts
 use Rattle.wasm_types.specs.Opcodes.{const_op}
-use Rattle.wasm_types.specs.Part.{byte, marker}
+use Rattle.wasm_types.specs.Part.{marker}
 use Rattle.wasm_types.specs.Types.{text, val_type, val_type_of, so_many_results, result_type, func_type, flag, flag_of, limits_with, limits, table, sort_of, global_desc, desc_of, desc, import_, ext_of, ext, export_, const_operand, const_value, const_end, end_of, init, global, elem, seg}
 use Rattle.wasm_types.proofs.Lawful.{Lawful, Anything, lawful_done, lawful_bind, lawful_byte_or, lawful_number, lawful_judged, lawful_anything, lawful_vector, lawful_sized}
 

@@ -1,23 +1,23 @@
 -- The laws of what bytes spell and where they break.
-use Rattle.std.proofs.Common.{◌≡◌, ℕ, ◌+◌, ◌<◌, ◌↔◌, Bool, true, false, cond, eqb, ltb, List, [], ◌∷◌, ◌++◌, length, drop, Option, Some, None, Result, Ok, Err, refl, sym, ap, subst, ◌∙◌, arith}
+use Rattle.std.proofs.Common.{◌≡◌, ℕ, ◌+◌, ◌<◌, ◌↔◌, Bool, true, false, cond, List, [], ◌∷◌, ◌++◌, length, drop, Option, Some, None, Ok, Err, refl, sym, ap, subst, ◌∙◌, arith}
 use Rattle.std.specs.Prelude.{nat_eq}
 use Rattle.std.specs.List.{starts_with}
 use Rattle.std.proofs.lemmas.Bool.{lt-ltb, ne_eqb}
 use Rattle.std.proofs.lemmas.Bool.Decides.{Decides-eqb}
-use Rattle.std.proofs.lemmas.List.{append-nil, length-append}
+use Rattle.std.proofs.lemmas.List.{append-nil}
 use Rattle.std.proofs.lemmas.Slice.Eq.{starts_is}
 use Rattle.wasm_types.specs.declared.kind.ReadKind.{ReadKind}
 use Rattle.wasm_types.specs.declared.kind.ReadKind.TheVariants.{Cut, Magic, Leb}
 use Rattle.wasm_types.specs.Plain.{PlainModule}
 use Rattle.wasm_types.specs.Place.{Place, Broken, Reading, breaks}
 use Rattle.wasm_types.specs.Number.{IsCutNumber, number_at, number_read, number_or, is_cut_number}
-use Rattle.wasm_types.specs.Part.{exactly, next_read, index, length_read, word_read}
+use Rattle.wasm_types.specs.Part.{next_read, length_read, word_read}
 use Rattle.wasm_types.specs.Body.{opcode}
-use Rattle.wasm_types.specs.ModuleText.{header, input_end, end_read, AreBytes, IsModule, module_part, module_in, broken_in, reading_of, module_of, broken}
+use Rattle.wasm_types.specs.ModuleText.{header, end_read, AreBytes, IsModule, module_part, module_in, broken_in, reading_of}
 use Rattle.wasm_types.specs.Laws.{SpellsOnce, IsTheSpelled, BreaksOrSpells, IsProperFront, WantsInstruction, WantsSameCount, CutsNumber, CutsHeader, CutsByte, CutsLength}
 use Rattle.wasm_types.proofs.Lawful.{here, ok_is, read_of}
 use Rattle.wasm_types.proofs.NumberLaws.{cut_is}
-use Rattle.wasm_types.proofs.ModuleLaws.{Whole, whole_module}
+use Rattle.wasm_types.proofs.ModuleLaws.{whole_module}
 
 -- ---- modules
 

@@ -1,12 +1,13 @@
 -- What follows from the definitions of what bytes spell and where they break.
-use Rattle.std.specs.Prelude.{◌≡◌, ◌≢◌, ℕ, ◌<◌, ◌↔◌, Bool, false, List, [], ◌++◌, length, Option, Some, None, Ok, Err}
+use Rattle.std.specs.Prelude.{◌≡◌, ◌≢◌, ℕ, ◌^◌, ◌<◌, ◌↔◌, Bool, false, List, [], ◌∷◌, ◌++◌, length, All, Some, None, Ok, Err}
 use Rattle.wasm_types.specs.declared.kind.ReadKind.TheVariants.{Cut, Magic, Nesting, Count}
-use Rattle.wasm_types.specs.Plain.{PlainModule}
+use Rattle.wasm_types.specs.Plain.{PlainCode, PlainModule}
 use Rattle.wasm_types.specs.Place.{Place, Broken, breaks}
 use Rattle.wasm_types.specs.Number.{IsCutNumber, number_read}
 use Rattle.wasm_types.specs.Part.{exactly, next_read, index, length_read}
 use Rattle.wasm_types.specs.Body.{opcode}
-use Rattle.wasm_types.specs.ModuleText.{header, input_end, AreBytes, IsModule, module_of, broken}
+use Rattle.wasm_types.specs.Nesting.{Nests}
+use Rattle.wasm_types.specs.ModuleText.{header, input_end, AreBytes, IsModule, HasSpelling, module_of, broken}
 
 -- bytes spell at most one module
 abbrev pub SpellsOnce : Type 0
@@ -47,3 +48,25 @@ CutsByte = (at : ℕ) → next_read Cut (record { at = at; rest = [] }) ≡ brea
 -- a length is cut where fewer bytes follow it
 abbrev pub CutsLength : Type 0
 CutsLength = (start after : Place) (n : ℕ) → index.read start ≡ Ok (n, after) → length after.rest < n → length_read start ≡ breaks start.at Cut
+
+abbrev pub AreFew : {A : Type 0} → List A → Type 0
+AreFew items = length items < 2 ^ 32
+
+-- what a module that bytes spell has besides: as many functions as codes, fewer than 2^32 items in each list, and bodies that close
+-- just the blocks that they open
+pub record IsShaped (m : PlainModule) : Type 0 where
+  pub as_many : length m.funcs ≡ length m.codes
+  pub types : AreFew m.types
+  pub imports : AreFew m.imports
+  pub funcs : AreFew m.funcs
+  pub tables : AreFew m.tables
+  pub memories : AreFew m.memories
+  pub globals : AreFew m.globals
+  pub exports : AreFew m.exports
+  pub elems : AreFew m.elems
+  pub codes : AreFew m.codes
+  pub segs : AreFew m.segs
+  pub bodies : All (λ (c : PlainCode). AreFew c.body × Nests (false ∷ []) c.body) m.codes
+
+abbrev pub SpelledAreShaped : Type 0
+SpelledAreShaped = (m : PlainModule) → HasSpelling m → IsShaped m

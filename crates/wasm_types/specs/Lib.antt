@@ -7,4 +7,10 @@ pub mod Types
 pub mod Body
 pub mod ModuleText
 pub mod Examples
+pub mod TypingExamples
+pub mod Nesting
+pub mod Typing
+pub mod Validity
+pub mod Interface
+pub mod Gate
 pub mod Laws

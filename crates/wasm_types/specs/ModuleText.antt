@@ -112,6 +112,9 @@ AreBytes bytes = All (λ b. b < 256) bytes
 abbrev pub IsModule : List ℕ → PlainModule → Type 0
 IsModule bytes m = AreBytes bytes × module_part.Spells bytes m
 
+abbrev pub HasSpelling : PlainModule → Type 0
+HasSpelling m = (bytes : List ℕ) × IsModule bytes m
+
 abbrev pub reading_of : List ℕ → Reading PlainModule
 reading_of bytes = module_part.read (record { at = 0; rest = bytes })
 

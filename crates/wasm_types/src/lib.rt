@@ -24,7 +24,7 @@ pub use global::{GlobalVar, Init};
 pub use import::{Desc, Import};
 pub use instr::Instr;
 pub use kind::{ReadKind, ValidKind};
-pub use laws::{bytes_spell_or_break, faults_come_in_order};
+pub use laws::{bytes_spell_or_break, faults_come_in_order, spelled_are_shaped};
 pub use leb::{Leb, is_cut, read_s32, read_s64, read_u32};
 pub use limits::Limits;
 pub use module::{Code, Module};

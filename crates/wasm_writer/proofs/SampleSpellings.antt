@@ -5,7 +5,7 @@ use Rattle.std.specs.Str.{is_utf8, chars}
 use Rattle.std.proofs.lemmas.Bool.{ltb-true, and_parts}
 use lib.Utf8.{encode}
 use Rattle.wasm_types.specs.Plain.{PlainModule}
-use Rattle.wasm_types.specs.ModuleText.{module_of, module_part}
+use Rattle.wasm_types.specs.ModuleText.{module_of, module_part, HasSpelling}
 use Rattle.wasm_types.specs.Part as part
 use Rattle.wasm_types.specs.ModuleText as modules
 use Rattle.wasm_types.specs.Types as types
@@ -15,7 +15,6 @@ use Rattle.wasm_types.specs.Opcodes.{shape, const_op}
 use Rattle.wasm_types.proofs.TextLaws.{is_the_spelled}
 use Rattle.wasm_writer.specs.ShortNumber.{unsigned_in, signed_in}
 use Rattle.wasm_writer.specs.Spelling.{spelling_of, vector_text, sized_text}
-use Rattle.wasm_writer.specs.Shortest.{HasSpelling}
 use Rattle.wasm_writer.specs.Samples.{echo_module, spin_module, keeper_module, common_module, sign_module}
 use Rattle.wasm_writer.proofs.Least.{Bytes, are_bytes}
 

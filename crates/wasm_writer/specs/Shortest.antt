@@ -1,11 +1,8 @@
 -- What it is to be a shortest spelling of a module.
 use Rattle.std.specs.Prelude.{◌≡◌, ℕ, ◌≤◌, List, length, Some}
 use Rattle.wasm_types.specs.Plain.{PlainModule}
-use Rattle.wasm_types.specs.ModuleText.{IsModule, module_of}
+use Rattle.wasm_types.specs.ModuleText.{IsModule, HasSpelling, module_of}
 use Rattle.wasm_writer.specs.Spelling.{spelling_of}
-
-abbrev pub HasSpelling : PlainModule → Type 0
-HasSpelling m = (bytes : List ℕ) × IsModule bytes m
 
 -- a spelling of the module, and none has fewer bytes
 pub record IsShortest (bytes : List ℕ) (m : PlainModule) : Type 0 where

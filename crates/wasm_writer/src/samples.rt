@@ -1,7 +1,7 @@
 ghost use Rattle.std.specs.Prelude.{◌≡◌, ◌≤◌, map, IfOk};
 ghost use Rattle.wasm_types.specs.Plain.{plain_module, plain_export, plain_seg, plain_code};
 ghost use Rattle.wasm_writer.specs.Samples.{exported, entries, bodies, code_of, data_at, region, answer, echo_with, keeper_with, common_with, echo_module, spin_module, keeper_module, common_module, sign_module};
-ghost use Rattle.wasm_writer.specs.Shortest.{HasSpelling};
+ghost use Rattle.wasm_types.specs.ModuleText.{HasSpelling};
 
 use crate::parts::{codes, data_at, env_import, env_imports, exports, mutable_i32, signatures};
 use std::alloc::{AllocError, Global};

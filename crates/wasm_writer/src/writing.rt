@@ -1,8 +1,8 @@
 ghost use Rattle.std.specs.Prelude.{◌≡◌, IfOk, Some};
 ghost use Rattle.wasm_types.specs.Plain.{plain_module};
-ghost use Rattle.wasm_types.specs.ModuleText.{module_of};
+ghost use Rattle.wasm_types.specs.ModuleText.{module_of, HasSpelling};
 ghost use Rattle.wasm_writer.specs.Spelling.{spelling_of};
-ghost use Rattle.wasm_writer.specs.Shortest.{HasSpelling, IsShortest};
+ghost use Rattle.wasm_writer.specs.Shortest.{IsShortest};
 
 use crate::sections::{put_section, put_tables};
 use std::alloc::{AllocError, Global};

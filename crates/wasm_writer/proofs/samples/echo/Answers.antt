@@ -1,7 +1,7 @@
 use Rattle.std.proofs.Common.{subst, sym}
 use Rattle.wasm_types.specs.Plain.{PlainModule}
 use Rattle.wasm_writer.specs.Samples.{echo_module}
-use Rattle.wasm_writer.specs.Shortest.{HasSpelling}
+use Rattle.wasm_types.specs.ModuleText.{HasSpelling}
 use Rattle.wasm_writer.proofs.SampleSpellings.{echo_spelled}
 use Rattle.wasm_writer.proofs.samples.echo.Goals as goal
 

@@ -1,7 +1,7 @@
 use Rattle.std.proofs.Common.{subst, sym}
 use Rattle.wasm_types.specs.Plain.{PlainModule}
 use Rattle.wasm_writer.specs.Samples.{keeper_module}
-use Rattle.wasm_writer.specs.Shortest.{HasSpelling}
+use Rattle.wasm_types.specs.ModuleText.{HasSpelling}
 use Rattle.wasm_writer.proofs.SampleSpellings.{keeper_spelled}
 use Rattle.wasm_writer.proofs.samples.keeper.Goals as goal
 

@@ -1,0 +1,9 @@
+pub mod Stacks
+pub mod Rules
+pub mod Contexts
+pub mod Frames
+pub mod Steps
+pub mod Spaces
+pub mod Names
+pub mod Bodies
+pub mod Sections
