@@ -17,5 +17,6 @@ mod spaces;
 mod stop;
 mod validity;
 
+pub use spaces::function_types;
 pub use stop::ValidStop;
 pub use validity::valid;

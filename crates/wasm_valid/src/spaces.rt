@@ -1,6 +1,6 @@
 ghost use Rattle.std.specs.Prelude.{◌≡◌, ◌≤◌, ◌++◌, length, map, option_to_list, IfOk, OnOk};
 ghost use Rattle.wasm_types.specs.Plain.{plain_import, plain_module};
-ghost use Rattle.wasm_types.specs.Validity.{func_in, table_in, memory_in, global_in, imported, declared, globals_of};
+ghost use Rattle.wasm_types.specs.Validity.{func_in, table_in, memory_in, global_in, imported, declared, funcs_of};
 ghost use Rattle.wasm_types.specs.Laws.{IsShaped};
 ghost use Rattle.wasm_valid.specs.Contexts.{plain_global};
 ghost use Rattle.wasm_valid.specs.Spaces.{AreSpaces};
@@ -123,14 +123,22 @@ fn count_memories(imports: &[Import]) -> usize
     count
 }
 
+/// The type of each function of a module, the imported ones first.
+pub fn function_types(alloc: Global, m: &Module) -> Result<Vec<u32>, AllocError>
+    ensures { IfOk result (λ funcs. funcs.items ≡ funcs_of (plain_module m.now)) }
+{
+    let mut funcs = imported_funcs(alloc, &m.imports)?;
+    funcs.extend_from_slice(&m.funcs)?;
+    Ok(funcs)
+}
+
 impl Spaces {
     /// The index spaces of a module.
     pub fn of(alloc: Global, m: &Module) -> Result<Spaces, AllocError>
         requires shaped { IsShaped (plain_module m.now) }
         ensures { IfOk result (λ spaces. AreSpaces spaces (plain_module m.now)) }
     {
-        let mut funcs = imported_funcs(alloc, &m.imports)?;
-        funcs.extend_from_slice(&m.funcs)?;
+        let funcs = function_types(alloc, m)?;
         let mut globals = imported_globals(alloc, &m.imports)?;
         let imported_globals = globals.len();
         add_declared(&mut globals, &m.globals)?;

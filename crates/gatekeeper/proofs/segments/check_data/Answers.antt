@@ -1,0 +1,4 @@
+use Rattle.gatekeeper.proofs.segments.check_data.Goals as goal
+
+pub returns : goal.returns
+returns c = rw c.deref.ensures.value at c.judge_all.ensures

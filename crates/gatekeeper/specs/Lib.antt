@@ -1,0 +1,6 @@
+pub mod Judging
+pub mod Signatures
+pub mod Rules
+pub mod Accepted
+pub mod CodeBytes
+pub mod Texts

@@ -1,0 +1,29 @@
+ghost use Rattle.std.specs.Prelude.{◌≡◌};
+ghost use Rattle.gatekeeper.specs.declared.stop.GateStop.TheVariants.{NoMemory};
+
+use std::alloc::{AllocError, AllocFailed};
+use wasm_types::GateRefusal;
+
+/// Why a code isn't taken.
+#[derive(Debug, Drop, PartialEq, Eq)]
+pub enum GateStop {
+    /// The first rule that it breaks.
+    Refused(GateRefusal),
+    NoMemory,
+}
+
+impl From<AllocError> for GateStop {
+    ghost from_gives = { λ _ e. e ≡ NoMemory };
+
+    fn from(_e: AllocError) -> GateStop {
+        GateStop::NoMemory
+    }
+}
+
+impl<T: Drop> From<AllocFailed<T>> for GateStop {
+    ghost from_gives = { λ _ e. e ≡ NoMemory };
+
+    fn from(_e: AllocFailed<T>) -> GateStop {
+        GateStop::NoMemory
+    }
+}
