@@ -131,6 +131,12 @@ query_data r = variant (codes "query") (object (
     member (codes "n") (whole r.n) (
     member (codes "result") (query_result_data r.result) no_members))))))
 
+-- ---- codes
+
+-- what the gate says of a code
+abbrev pub check_data : List ℕ → Data
+check_data text = variant (codes "check") (string text)
+
 -- ---- bad lines
 
 abbrev pub kind_text : BadKind → List ℕ

@@ -21,4 +21,4 @@ pub use line::{Line, ParseStop, Question};
 pub use line_form::{parse, read_json, variant_of};
 pub use lines::{LineStop, Lines, RawLine};
 pub use reply::{QueryReply, QueryResult};
-pub use texts::{bad_text, block_text, genesis_text, query_text};
+pub use texts::{bad_text, block_text, check_text, genesis_text, query_text};

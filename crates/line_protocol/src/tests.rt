@@ -1,6 +1,6 @@
 use crate::{
     BadKind, Line, LineStop, Lines, ParseStop, QueryReply, QueryResult, Question, bad_text,
-    block_text, genesis_text, parse, query_text,
+    block_text, check_text, genesis_text, parse, query_text,
 };
 use chain_msgs::{
     Answer, Attribute, Block, Event, FailKind, Failure, Genesis, SystemError, TxResult,
@@ -486,6 +486,16 @@ fn errors_of_the_host_are_written(rt: HostRuntime) -> Result<(), Fail> {
         let answer = QueryResult::Answer(Answer::System(error));
         expect_reply(&rt, alloc, answer, want)?;
     }
+    Ok(())
+}
+
+#[test]
+fn answers_to_codes_are_written(rt: HostRuntime) -> Result<(), Fail> {
+    let text = check_text(rt.alloc(), "MemoryInitial 513")?;
+    assert_eq!(rt;
+        text.as_slice(),
+        b"{\"check\":\"MemoryInitial 513\"}\n".as_slice()
+    );
     Ok(())
 }
 

@@ -6,7 +6,7 @@ ghost use Rattle.sha2.specs.Sha256.{sha256};
 ghost use Rattle.serde_json.specs.View.{view};
 ghost use Rattle.serde_json.specs.Written.{has_float};
 ghost use Rattle.line_protocol.specs.Plain.{query_result_view, reply_view};
-ghost use Rattle.line_protocol.specs.Texts.{line_text, variant, binary, list_data, genesis_data, attribute_data, event_data, out_data, success_data, failure_data, result_data, body_data, next_digest, block_data, system_data, answer_data, query_result_data, query_data, kind_text, bad_data};
+ghost use Rattle.line_protocol.specs.Texts.{line_text, variant, binary, list_data, genesis_data, attribute_data, event_data, out_data, success_data, failure_data, result_data, body_data, next_digest, block_data, system_data, answer_data, query_result_data, query_data, kind_text, check_data, bad_data};
 
 use crate::kind::BadKind;
 use crate::reply::{QueryReply, QueryResult};
@@ -39,6 +39,20 @@ fn genesis_value(alloc: Global, g: &Genesis) -> Result<Value, AllocError>
 {
     let chain_id = g.chain_id.as_str();
     json!(in alloc; {"genesis": {"chain_id": chain_id, "height": 0u64}})
+}
+
+/// The line that answers a code: `Ok`, or why the gate doesn't take it.
+pub fn check_text(alloc: Global, answer: &str) -> Result<Vec<u8>, AllocError>
+    ensures { IfOk result (λ text. text.items ≡ line_text (check_data answer.now)) }
+{
+    let line = check_value(alloc, answer)?;
+    write_line(alloc, &line)
+}
+
+fn check_value(alloc: Global, answer: &str) -> Result<Value, AllocError>
+    ensures { IfOk result (λ value. view value ≡ check_data answer.now) }
+{
+    json!(in alloc; {"check": answer})
 }
 
 /// The line that answers a bad line.

@@ -1,5 +1,8 @@
 pub mod Bank
 pub mod Chain
+pub mod Checking
+pub mod Answers
+pub mod Commands
 pub mod Halts
 pub mod Ledger
 pub mod Opening

@@ -3,6 +3,7 @@
 #![tactic(auto)]
 
 mod chain;
+mod checking;
 mod deliver;
 mod entry;
 mod ledger;
@@ -15,6 +16,7 @@ mod status;
 mod stop;
 #[cfg(test)]
 mod tests;
+mod words;
 
 use outside_io::{NoShelf, OpenGate, StdSink, StdSource};
 use status::Status;

@@ -1,13 +1,15 @@
-ghost use Rattle.std.specs.Prelude.{◌≡◌, ◌≢◌, ◌≤◌, true, false, None, string_bytes, map};
+ghost use Rattle.std.specs.Prelude.{◌≡◌, ◌≢◌, ◌≤◌, ℕ, List, None, Some, string_bytes, map};
 ghost use Rattle.std.specs.Io.KnownBytes.{Appends, IsAtEnd};
 ghost use Rattle.outside_io.specs.Cause.{Rose};
 ghost use Rattle.wasmnode.specs.Halts.{Ends};
 ghost use Rattle.wasmnode.specs.Run.{Writes};
-ghost use Rattle.wasmnode.specs.Words.{is_serial, usage_line, Explains};
+ghost use Rattle.wasmnode.specs.Words.{run_serial, check_code, command_of, usage_line, Explains};
+ghost use Rattle.wasmnode.specs.Checking.{IsJudged, IsUnread, Checks, ChecksFront};
 
-use crate::options::Options;
+use crate::checking::check_line;
 use crate::serial::serial;
 use crate::status::Status;
+use crate::words::{Command, WordsFault, read_words};
 use outside_io::{Gate, Shelf, Sink, Source, write_all};
 use std::alloc::Global;
 use std::marker::Send;
@@ -15,16 +17,6 @@ use std::sync::Wait;
 use std::thread::Threads;
 
 const USAGE: &str = "usage: wasmnode run|serial|check|gen N|soak N [options]\n";
-
-/// Whether the words are the one word `serial`.
-fn is_serial(words: &[String]) -> bool
-    ensures { result ≡ is_serial (map string_bytes words.now) }
-{
-    match words {
-        [word] => word.as_str() == "serial",
-        _ => false,
-    }
-}
 
 /// Writes which words the program takes.
 fn explain<K: Sink>(sink: &mut K) -> Status
@@ -39,7 +31,7 @@ fn explain<K: Sink>(sink: &mut K) -> Status
     }
 }
 
-/// Does what the words after the program's name say: so far the one word `serial` is taken.
+/// Does what the words after the program's name say.
 pub fn node<R: Threads + Wait + Sync, S: Source, K: Sink, F: Shelf + Send + Drop, G: Gate>(
     _rt: &R,
     alloc: Global,
@@ -49,22 +41,31 @@ pub fn node<R: Threads + Wait + Sync, S: Source, K: Sink, F: Shelf + Send + Drop
     shelf: F,
     _gate: &G,
 ) -> Status
-    ensures serial { is_serial (map string_bytes words.now) ≡ true → Ends result
+    ensures serial { command_of (map string_bytes words.now) ≡ Some run_serial → Ends result
         (Writes (S.left source.old) (K.written sink.old) (K.written sink.new) (λ bad. bad ≡ None))
         (Writes (S.left source.old) (K.written sink.old) (K.written sink.new) (λ bad. bad ≢ None))
         (Rose (S.faults source.old) (S.faults source.new))
         (Rose (K.faults sink.old) (K.faults sink.new)) }
-    ensures read { result ≡ Status.Done → IsAtEnd (S.left source.new) }
-    ensures usage { is_serial (map string_bytes words.now) ≡ false → Explains result
+    ensures read { command_of (map string_bytes words.now) ≡ Some run_serial
+        → result ≡ Status.Done → IsAtEnd (S.left source.new) }
+    ensures check { (caps : List (List ℕ)) → command_of (map string_bytes words.now) ≡ Some (check_code caps) → Ends result
+        (Checks caps (S.left source.old) (K.written sink.old) (K.written sink.new) IsJudged)
+        (Checks caps (S.left source.old) (K.written sink.old) (K.written sink.new) IsUnread)
+        (Rose (S.faults source.old) (S.faults source.new))
+        (Rose (K.faults sink.old) (K.faults sink.new)) }
+    ensures front { (caps : List (List ℕ)) → command_of (map string_bytes words.now) ≡ Some (check_code caps)
+        → ChecksFront caps (S.left source.old) (K.written sink.old) (K.written sink.new) }
+    ensures usage { command_of (map string_bytes words.now) ≡ None → Explains result
         (Appends (K.written sink.old) (K.written sink.new) usage_line)
         (Rose (K.faults sink.old) (K.faults sink.new)) }
-    ensures unread { is_serial (map string_bytes words.now) ≡ false → source.new ≡ source.old }
+    ensures unread { command_of (map string_bytes words.now) ≡ None → source.new ≡ source.old }
     ensures reads { S.faults source.old ≤ S.faults source.new }
     ensures writes { K.faults sink.old ≤ K.faults sink.new }
 {
-    if is_serial(words) {
-        serial(alloc, &Options::standard(alloc), source, sink, shelf)
-    } else {
-        explain(sink)
+    match read_words(alloc, words) {
+        Ok((Command::Serial, options)) => serial(alloc, &options, source, sink, shelf),
+        Ok((Command::Check, options)) => check_line(alloc, &options, source, sink),
+        Err(WordsFault::Usage) => explain(sink),
+        Err(WordsFault::NoMemory) => Status::NoMemory,
     }
 }

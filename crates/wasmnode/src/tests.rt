@@ -341,6 +341,65 @@ fn a_failed_write_ends_the_run_after_the_bytes_before_it(rt: HostRuntime) -> Res
     Ok(())
 }
 
+/// Lines for `check --caps staking`, and what is written for each.
+const CHECKS: [(&str, Status, &str); 8] = [
+    ("", Status::Done, r#"{"check":"Read Cut 0"}"#),
+    ("H4sI\nH4sI\n", Status::Done, r#"{"check":"Gzip"}"#),
+    ("AGFzbQEAAAA=", Status::Done, r#"{"check":"MemoryMissing"}"#),
+    (
+        "AGFzbQEAAAAFAwEAAQ==\n",
+        Status::Done,
+        r#"{"check":"ExportMissing interface_version_8"}"#,
+    ),
+    (
+        "A",
+        Status::BadLine,
+        r#"{"bad_line":{"kind":"base64","line":1}}"#,
+    ),
+    (
+        " \t",
+        Status::BadLine,
+        r#"{"bad_line":{"kind":"base64","line":1}}"#,
+    ),
+    (
+        "H4sI\r\n",
+        Status::BadLine,
+        r#"{"bad_line":{"kind":"base64","line":1}}"#,
+    ),
+    (
+        "H4sI ",
+        Status::BadLine,
+        r#"{"bad_line":{"kind":"base64","line":1}}"#,
+    ),
+];
+
+#[test]
+fn a_code_is_checked(rt: HostRuntime) -> Result<(), Fail> {
+    let alloc = rt.alloc();
+    let words = [
+        String::from_str(alloc, "check")?,
+        String::from_str(alloc, "--caps")?,
+        String::from_str(alloc, "a,,staking")?,
+    ];
+    for (line, status, answer) in CHECKS {
+        let mut source = SureSource::new(Vec::from_slice(alloc, line.as_bytes())?);
+        let mut sink = MemSink::new(alloc, 4096, Vec::new(alloc))?;
+        let ended = node(
+            &rt,
+            alloc,
+            &words,
+            &mut source,
+            &mut sink,
+            NoShelf,
+            &OpenGate,
+        );
+        assert_eq!(rt; ended, status);
+        let wanted = format!(in alloc; "{answer}\n")?;
+        assert_eq!(rt; sink.bytes(), wanted.as_bytes());
+    }
+    Ok(())
+}
+
 #[test]
 fn other_words_are_answered_with_the_usage(rt: HostRuntime) -> Result<(), Fail> {
     let alloc = rt.alloc();
