@@ -1,0 +1,9 @@
+pub mod Blocks
+pub mod Calls
+pub mod Codes
+pub mod Fuel
+pub mod Loads
+pub mod Moves
+pub mod Piles
+pub mod Runs
+pub mod Standing

@@ -1,0 +1,13 @@
+pub mod Acts
+pub mod Control
+pub mod Effects
+pub mod Examples
+pub mod Exec
+pub mod Kinds
+pub mod Machine
+pub mod Pauses
+pub mod Phases
+pub mod Piles
+pub mod Rests
+pub mod Start
+pub mod Values

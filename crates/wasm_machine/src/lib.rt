@@ -1,0 +1,26 @@
+//! A machine that runs the functions of a WebAssembly 1.0 module, pays for each instruction before its
+//! effect, and pauses where an import is called.
+#![tactic(auto)]
+
+mod advance;
+mod call;
+mod control;
+mod frame;
+mod functions;
+mod kind;
+mod laws;
+mod machine;
+mod numbers;
+mod pile;
+mod run;
+mod start;
+mod state;
+mod stop;
+#[cfg(test)]
+mod tests;
+mod turn;
+mod values;
+
+pub use laws::acts_tell_what_stands;
+pub use machine::Machine;
+pub use turn::{Phase, TrapKind, Turn};
