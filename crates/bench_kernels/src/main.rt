@@ -3,6 +3,7 @@
 
 mod gas;
 mod kernel;
+mod machines;
 mod memory;
 mod modules;
 mod numbers;

@@ -1,10 +1,12 @@
 ghost use Rattle.linear_memory.specs.Numbers.{IsWidth};
 
 use crate::kernel::Kernel;
-use crate::{gas, memory, modules, numbers, state};
+use crate::{gas, machines, memory, modules, numbers, state};
 use anyhow::{Result, anyhow};
 use std::alloc::{AllocError, Global};
 use std::io::Read;
+use std::sync::Arc;
+use wasm_reader::read;
 
 const ADD: u8 = 0x6A;
 
@@ -39,13 +41,31 @@ fn charge(alloc: Global, count: u32) -> Result<u64, AllocError> {
     Ok(gas::charge(&costs, count))
 }
 
-/// Reads the module on standard input so often.
-fn read_module(rt: &(impl Input + AllocGlobal), count: u32) -> Result<u64> {
+fn input(rt: &(impl Input + AllocGlobal)) -> Result<Vec<u8>> {
     let mut bytes = Vec::new(rt.alloc());
     rt.reader().read_to_end(&mut bytes)?;
+    Ok(bytes)
+}
+
+/// Reads the module on standard input so often.
+fn read_module(rt: &(impl Input + AllocGlobal), count: u32) -> Result<u64> {
+    let bytes = input(rt)?;
     match modules::read_module(rt.alloc(), &bytes, count) {
         Ok(sum) => Ok(sum),
         Err(stop) => Err(anyhow!("the module cannot be read: {stop:?}")),
+    }
+}
+
+/// Runs the export `run` of the module on standard input so often.
+fn run_module(rt: &(impl Input + AllocGlobal), count: u32) -> Result<u64> {
+    let bytes = input(rt)?;
+    let module = match read(rt.alloc(), &bytes) {
+        Ok(module) => Arc::new(rt.alloc(), module)?,
+        Err(stop) => return Err(anyhow!("the module cannot be read: {stop:?}")),
+    };
+    match machines::run_module(rt.alloc(), &module, count)? {
+        Some(sum) => Ok(sum),
+        None => Err(anyhow!("no number comes from the module's run")),
     }
 }
 
@@ -73,6 +93,7 @@ pub fn run(rt: &(impl Input + AllocGlobal), kernel: Kernel, count: u32) -> Resul
         Kernel::Store8 => store(alloc, 8, count)?,
         Kernel::Charge => charge(alloc, count)?,
         Kernel::ReadModule => read_module(rt, count)?,
+        Kernel::RunModule => run_module(rt, count)?,
         Kernel::LayersNew | Kernel::LayersGet | Kernel::LayersNext | Kernel::LayersKeep => layers(
             alloc, kernel, count,
         )?,
