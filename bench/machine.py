@@ -6,7 +6,7 @@ usage: bench/machine.py [PROGRAM]
 PROGRAM is crates/bench_kernels/out/bench_kernels if it isn't given. Each module exports `run`, which turns so often;
 both programs have to give the same number. A time is the least processor time of three runs, less that of a run of the
 same module with few turns, divided by the instructions between the two, `end` and `else` not counted. wasm-interp is left
-out where it isn't on the machine.
+out where it isn't on the machine. Then a memory is grown to 512 pages, and the program's greatest memory is told.
 """
 
 import shutil
@@ -24,6 +24,7 @@ RUNS = 3
 LOOP, IF_I32, ELSE, BR_IF, BR_TABLE, CALL = b"\x03\x40", b"\x04\x7f", b"\x05", b"\x0d\x00", b"\x0e", b"\x10"
 LOAD, STORE = b"\x28\x02\x00", b"\x36\x02\x00"
 I32_SUB, I32_AND, I32_LT_U = b"\x6b", b"\x71", b"\x49"
+DROP, SIZE, GROW = b"\x1a", b"\x3f\x00", b"\x40\x00"
 
 TURN, SUM = GET + b"\x00", GET + b"\x01"
 
@@ -82,6 +83,16 @@ def recursion(depth):
     return module([code(0, [const(depth), CALL + b"\x01"]), code(0, leaf + inner)]), 5 * leaves + 13 * (leaves - 1)
 
 
+def grown_at_once():
+    """Grows the memory from 2 to 512 pages, and gives their number."""
+    return module([code(0, [const(510), GROW, DROP, SIZE])])
+
+
+def grown_by_pages():
+    again = [TURN, const(1), I32_SUB, TEE + b"\x00", BR_IF, END]
+    return module([code(1, [const(510), SET + b"\x00", LOOP, const(1), GROW, DROP] + again + [SIZE])])
+
+
 KINDS = [
     ("arithmetic", arithmetic, 4, 4_000_000),
     ("loads and stores", loads_and_stores, 4, 4_000_000),
@@ -123,6 +134,9 @@ def main():
                 sys.exit(f"\n{name}: {number}, and wasm-interp says {other}")
             print(f"; wasm-interp {theirs_ns:.1f} ns", end="")
         print()
+    for name, make in [("grown at once", grown_at_once), ("grown by pages", grown_by_pages)]:
+        pages, _, memory = ours(program, make())
+        print(f"{name:18} {pages} pages, {memory:.0f} MiB")
 
 
 if __name__ == "__main__":

@@ -5,6 +5,7 @@ use crate::num::{Num, NumTrap};
 use crate::{on_i32, on_i64};
 
 /// Whether the opcode is that of an instruction on one operand of this type.
+#[inline(always)]
 pub fn is_unary(op: u8, a: Num) -> bool
     ensures ranges { result ≡ takes_one op a }
     ensures known { result ≡ is_some (num op (a ∷ [])) }
@@ -16,6 +17,7 @@ pub fn is_unary(op: u8, a: Num) -> bool
 }
 
 /// Whether the opcode is that of an instruction on two operands of these types.
+#[inline(always)]
 pub fn is_binary(op: u8, a: Num, b: Num) -> bool
     ensures ranges { result ≡ takes_two op a b }
     ensures known { result ≡ is_some (num op (a ∷ b ∷ [])) }
@@ -28,6 +30,7 @@ pub fn is_binary(op: u8, a: Num, b: Num) -> bool
 }
 
 /// The value of an instruction on one operand.
+#[inline(always)]
 pub fn unary(op: u8, a: Num) -> Num
     requires { IsTrue (takes_one op a) }
     ensures { num op (a ∷ []) ≡ Some (Ok result) }
@@ -39,6 +42,7 @@ pub fn unary(op: u8, a: Num) -> Num
 }
 
 /// The value or the trap of an instruction on two operands, of which `b` is the upper one.
+#[inline(always)]
 pub fn binary(op: u8, a: Num, b: Num) -> Result<Num, NumTrap>
     requires { IsTrue (takes_two op a b) }
     ensures { num op (a ∷ b ∷ []) ≡ Some result }

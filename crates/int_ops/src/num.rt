@@ -16,6 +16,7 @@ pub enum NumTrap {
 }
 
 /// 1 for true.
+#[inline(always)]
 pub(crate) fn truth(holds: bool) -> Num
     ensures { result ≡ truth holds }
 {

@@ -5,6 +5,7 @@ ghost use Rattle.int_ops.specs.Numerics.{test_of, operation_of, on_i32, num, is_
 use crate::num::{Num, NumTrap, truth};
 
 /// Whether the opcode is that of an instruction on one integer.
+#[inline(always)]
 pub(crate) fn takes_one(op: u8) -> bool
     ensures { result ≡ is_one_i32 op }
 {
@@ -12,6 +13,7 @@ pub(crate) fn takes_one(op: u8) -> bool
 }
 
 /// Whether the opcode is that of an instruction on two integers.
+#[inline(always)]
 pub(crate) fn takes_two(op: u8) -> bool
     ensures { result ≡ is_two_i32 op }
 {
@@ -19,6 +21,7 @@ pub(crate) fn takes_two(op: u8) -> bool
 }
 
 /// The instruction on one integer.
+#[inline(always)]
 pub(crate) fn on_one(op: u8, a: u32) -> Num
     requires { IsTrue (is_one_i32 op) }
     ensures { on_i32 op a ≡ Some result }
@@ -37,6 +40,7 @@ pub(crate) fn on_one(op: u8, a: u32) -> Num
 }
 
 /// The instruction on two integers.
+#[inline(always)]
 pub(crate) fn on_two(op: u8, a: u32, b: u32) -> Result<Num, NumTrap>
     requires { IsTrue (is_two_i32 op) }
     ensures { num op (Num.I32 a ∷ Num.I32 b ∷ []) ≡ Some result }
@@ -51,6 +55,7 @@ pub(crate) fn on_two(op: u8, a: u32, b: u32) -> Result<Num, NumTrap>
 }
 
 /// The test of two integers.
+#[inline(always)]
 fn test(op: u8, a: u32, b: u32) -> bool
     requires low { 0x46 ≤ op }
     requires high { op ≤ 0x4F }
@@ -72,6 +77,7 @@ fn test(op: u8, a: u32, b: u32) -> bool
 }
 
 /// The operation on two integers.
+#[inline(always)]
 fn operate(op: u8, a: u32, b: u32) -> Result<u32, NumTrap>
     requires low { 0x6A ≤ op }
     requires high { op ≤ 0x78 }

@@ -5,6 +5,7 @@ ghost use Rattle.int_ops.specs.Numerics.{test_of, operation_of, on_i64, num, is_
 use crate::num::{Num, NumTrap, truth};
 
 /// Whether the opcode is that of an instruction on one integer.
+#[inline(always)]
 pub(crate) fn takes_one(op: u8) -> bool
     ensures { result ≡ is_one_i64 op }
 {
@@ -12,6 +13,7 @@ pub(crate) fn takes_one(op: u8) -> bool
 }
 
 /// Whether the opcode is that of an instruction on two integers.
+#[inline(always)]
 pub(crate) fn takes_two(op: u8) -> bool
     ensures { result ≡ is_two_i64 op }
 {
@@ -19,6 +21,7 @@ pub(crate) fn takes_two(op: u8) -> bool
 }
 
 /// The instruction on one integer.
+#[inline(always)]
 pub(crate) fn on_one(op: u8, a: u64) -> Num
     requires { IsTrue (is_one_i64 op) }
     ensures { on_i64 op a ≡ Some result }
@@ -37,6 +40,7 @@ pub(crate) fn on_one(op: u8, a: u64) -> Num
 }
 
 /// The instruction on two integers.
+#[inline(always)]
 pub(crate) fn on_two(op: u8, a: u64, b: u64) -> Result<Num, NumTrap>
     requires { IsTrue (is_two_i64 op) }
     ensures { num op (Num.I64 a ∷ Num.I64 b ∷ []) ≡ Some result }
@@ -51,6 +55,7 @@ pub(crate) fn on_two(op: u8, a: u64, b: u64) -> Result<Num, NumTrap>
 }
 
 /// The test of two integers.
+#[inline(always)]
 fn test(op: u8, a: u64, b: u64) -> bool
     requires low { 0x51 ≤ op }
     requires high { op ≤ 0x5A }
@@ -72,6 +77,7 @@ fn test(op: u8, a: u64, b: u64) -> bool
 }
 
 /// The operation on two integers.
+#[inline(always)]
 fn operate(op: u8, a: u64, b: u64) -> Result<u64, NumTrap>
     requires low { 0x7C ≤ op }
     requires high { op ≤ 0x8A }

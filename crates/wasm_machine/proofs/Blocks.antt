@@ -1,5 +1,5 @@
 -- Blocks, and the functions that have them.
-use Rattle.std.proofs.Common.{◌≡◌, refl, sym, ◌∙◌, ap, subst, ℕ, suc, ◌+◌, ◌-◌, Bool, true, false, List, [], ◌∷◌, take, drop, length, reverse, Option, Some, None, Result, arith, length-take, length-drop}
+use Rattle.std.proofs.Common.{◌≡◌, refl, sym, ◌∙◌, ap, subst, ℕ, suc, ◌+◌, ◌-◌, Bool, true, false, List, [], ◌∷◌, take, drop, length, reverse, Option, Some, None, Result, Ok, Err, arith, length-take, length-drop}
 use Rattle.std.proofs.lemmas.List.{length-reverse}
 use Rattle.std.specs.Prelude.{slice_get, if◌then◌else◌}
 use Rattle.wasm_types.specs.declared.value.ValType.{ValType}
@@ -9,13 +9,16 @@ use Rattle.wasm_machine.specs.declared.frame.Label.{Label}
 use Rattle.wasm_machine.specs.declared.frame.Caller.{Caller}
 use Rattle.wasm_machine.specs.declared.frame.Caller.TheVariants.{Host, Function}
 use Rattle.wasm_machine.specs.declared.turn.TrapKind.TheVariants.{Unreachable}
+use Rattle.wasm_machine.specs.declared.frame.Frame as frames
 use Rattle.wasm_machine.specs.declared.frame.Event.{Event}
+use Rattle.wasm_machine.specs.declared.frame.Event.TheVariants.{Goes, Leaves}
+use Rattle.wasm_machine.specs.declared.frame.Step.{Step}
 use Rattle.wasm_machine.specs.declared.stop.Stop.{Stop}
 use Rattle.wasm_machine.specs.declared.state.State as states
 use Rattle.wasm_machine.specs.Acts.{Stands}
 use Rattle.wasm_machine.specs.Effects.{Shared, State, with_operands}
 use Rattle.wasm_machine.specs.Exec.{Ahead, Outcome, falls, jumps, returns, gives, ends, trapped, opens, Frame, from, turn, follows, turns, handed, behind, finishes, result_of, run}
-use Rattle.wasm_machine.specs.Rests.{Leads, frame_at, blocks, closed_by, through, ending}
+use Rattle.wasm_machine.specs.Rests.{Leads, LeadsTo, at_place, frame_at, blocks, closed_by, through, ending}
 use Rattle.wasm_machine.specs.Control.{handed_on, yielded}
 use Rattle.wasm_machine.proofs.Fuel.{run-step}
 
@@ -102,8 +105,17 @@ result_missing result value s shared a e d h = result_of-top result value s s.op
 
 -- ---- branches
 
-pub leads_from : (m : PlainModule) (r : Result Event Stop) (s : states.State) (a : Ahead) (o p : Outcome) → o ≡ p → Leads m r s a p → Leads m r s a o
-leads_from m r s a o p e h = subst (λ x. Leads m r s a x) (sym e) h
+pub leads_from : (m : PlainModule) (frame : frames.Frame) (r : Result Event Stop) (s : states.State) (a : Ahead) (o p : Outcome) → o ≡ p → Leads m frame r s a p → Leads m frame r s a o
+leads_from m frame r s a o p e h = subst (λ x. Leads m frame r s a x) (sym e) h
+
+-- only the function counts, and not the place in it
+pub leads_here : (m : PlainModule) (frame : frames.Frame) (place : ℕ) (r : Result Event Stop) (s : states.State) (a : Ahead) (o p : Outcome) → o ≡ p → Leads m (at_place frame place) r s a p → Leads m frame r s a o
+leads_here m frame place (Ok (Goes onward)) s a o p e h = e ∙ h
+leads_here m frame place (Ok Leaves) s a o p e h = e ∙ h
+leads_here m frame place (Err stop) s a o p e h = leads_from m frame (Err stop) s a o p e h
+
+pub steps_from : (m : PlainModule) (r : Result Step Stop) (s : states.State) (a : Ahead) (o p : Outcome) → o ≡ p → LeadsTo m r s a p → LeadsTo m r s a o
+steps_from m r s a o p e h = subst (λ x. LeadsTo m r s a x) (sym e) h
 
 falls_by : (m : PlainModule) (f : Frame) (n : ℕ) (start : Option ℕ) (l : Label) (outer : List Value) (s : State) (a : Ahead) → closed_by m f n start l outer (falls s a) ≡ behind (run m) f n l.after (handed l.result s.operands outer) s a
 falls_by m f n None l outer s a = refl

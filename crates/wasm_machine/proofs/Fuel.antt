@@ -472,3 +472,23 @@ run-step m j = step-alike m (deep m (enough j)) (λ i. deep m (suc (enough i)) i
     of_part : (n : ℕ) → Agree n (deep m n) (λ i. deep m (suc (enough i)) i)
     of_part n i lt =
         sym (deep-enough m (n - suc (enough i)) i ∙ deep-at m i (n - suc (enough i) + suc (enough i)) n (omega arith))
+
+-- ---- the same run, where what lies too deep is out of gas
+
+abbrev pub starved : PlainModule → ℕ → Job → Outcome
+starved m zero job = ends (record { standing = out_of_gas; memory = []; globals = []; left = 0 })
+starved m (suc n) job = step m (starved m n) job
+
+run-within : (m : PlainModule) (j : Job) → Within (bound (ahead_of j)) (run m j)
+unfolding run
+run-within m j = deep-within m (suc (enough j)) j
+
+starved-more : (m : PlainModule) (n : ℕ) → Agree n (run m) (starved m n)
+starved-more m zero j h = absurd (omega arith)
+starved-more m (suc n) j h = run-step m j ∙ step-alike m (run m) (starved m n) (run-within m) j (shorter m n (enough j) (omega arith) (starved-more m n))
+  where
+    shorter : (m : PlainModule) (n k : ℕ) → k ≤ n → Agree n (run m) (starved m n) → Agree k (run m) (starved m n)
+    shorter m n k le more i lt = more i (omega arith)
+
+pub run-starved : (m : PlainModule) (j : Job) → run m j ≡ starved m (suc (enough j)) j
+run-starved m j = starved-more m (suc (enough j)) j (omega arith)

@@ -2,6 +2,7 @@ pub mod Blocks
 pub mod Calls
 pub mod Codes
 pub mod Fuel
+pub mod Gas
 pub mod Loads
 pub mod Moves
 pub mod Piles

@@ -41,7 +41,11 @@ values_of s = length (all s.values.locals) + length (all s.values.operands)
 
 abbrev pub with_bytes : states.State → List ℕ → states.State
 with_bytes s bytes =
-    record { values = record { memory = bytes; globals = s.values.globals; operands = s.values.operands; locals = s.values.locals }; labels = s.labels; callers = s.callers; depth = s.depth }
+    record { values = record { memory = bytes; globals = s.values.globals; operands = s.values.operands; locals = s.values.locals }; labels = s.labels; callers = s.callers; depth = s.depth; next = s.next }
+
+-- the state with something else to come next
+abbrev pub with_next : states.State → Next → states.State
+with_next s next = record { values = s.values; labels = s.labels; callers = s.callers; depth = s.depth; next = next }
 
 abbrev at_host : PlainModule → states.State → Outcome → Outcome
 at_host m s o = through m (reverse s.callers.items) (all s.values.operands) (all s.values.locals) (all s.labels) s.depth o
@@ -103,7 +107,7 @@ memory_rests Ready m s next standing left costs bytes more h = absurd h
 memory_rests ReadyOver m s next standing left costs bytes more h = absurd h
 memory_rests Spent m s next standing left costs bytes more h = absurd h
 
-pub answer_rests : (phase : Phase) (m : PlainModule) (s : states.State) (next : Next) (standing : Standing) (left : ℕ) (costs : Schedule) (v : Option Value) (more : List Act) → IsAsked phase → rests_in phase m s next standing (ahead left costs (answer v ∷ more)) ≡ rests_in (answered phase) m s (Give v) standing (ahead left costs more)
+pub answer_rests : (phase : Phase) (m : PlainModule) (s : states.State) (next : Next) (standing : Standing) (left : ℕ) (costs : Schedule) (v : Option Value) (more : List Act) → IsAsked phase → rests_in phase m s next standing (ahead left costs (answer v ∷ more)) ≡ rests_in (answered phase) m (with_next s (Give v)) (Give v) standing (ahead left costs more)
 answer_rests Asked m s next standing left costs v more h = waits_answer m s standing left costs v more
 answer_rests AskedOver m s next standing left costs v more h = waits_answer m s standing left costs v more
 answer_rests Idle m s next standing left costs v more h = absurd h

@@ -1,5 +1,5 @@
 -- What a host does with a machine, and what then stands.
-use Rattle.std.specs.Prelude.{ℕ, List, Option}
+use Rattle.std.specs.Prelude.{ℕ, ◌+◌, List, Option}
 use Rattle.gas_meter.specs.declared.schedule.Schedule.{Schedule}
 use Rattle.wasm_types.specs.declared.value.Value.{Value}
 use Rattle.wasm_machine.specs.declared.turn.TrapKind.{TrapKind}
@@ -34,6 +34,14 @@ pub record Stands : Type 0 where
   pub memory : List ℕ
   pub globals : List Value
   pub left : ℕ
+
+-- the same, with so much more gas left
+abbrev pub with_more_left : ℕ → Stands → Stands
+with_more_left more s = record s { left = s.left + more }
+
+-- the same, whatever gas is left
+abbrev pub gas_aside : Stands → Stands
+gas_aside s = record s { left = 0 }
 
 -- a turn of a machine as a plain value
 abbrev pub standing_of : Turn → Standing

@@ -8,6 +8,7 @@ pub mod Machine
 pub mod Pauses
 pub mod Phases
 pub mod Piles
+pub mod Prices
 pub mod Rests
 pub mod Start
 pub mod Values

@@ -70,7 +70,7 @@ pub record Rests (machine : Machine) (acts : List Act) : Type 0 where
   pub standing : Standing
   pub left : ℕ
   pub costs : Schedule
-  pub goes_on : (more : List Act) → exec (plain_of machine) (acts ++ more) ≡ at_last (rests_in machine.phase (plain_of machine) machine.state machine.next standing (record { left = left; costs = costs; acts = more }))
+  pub goes_on : (more : List Act) → exec (plain_of machine) (acts ++ more) ≡ at_last (rests_in machine.phase (plain_of machine) machine.state machine.state.next standing (record { left = left; costs = costs; acts = more }))
   pub hosts_in : HostsIn machine.phase (hosts machine.state.callers.items)
   pub cells : machine.table.items ≡ table (plain_of machine)
 

@@ -4,26 +4,27 @@ use Rattle.std.specs.Prelude.{◌≡◌, ℕ, suc, ◌+◌, ◌-◌, ◌*◌, �
 use Rattle.gas_meter.specs.declared.schedule.Schedule.{Schedule}
 use Rattle.wasm_types.specs.declared.value.ValType.{ValType}
 use Rattle.wasm_types.specs.declared.value.Value.{Value}
-use Rattle.wasm_types.specs.Plain.{PlainModule}
+use Rattle.wasm_types.specs.declared.instr.Instr.{Instr}
+use Rattle.wasm_types.specs.Plain.{PlainCode, PlainModule}
 use Rattle.wasm_machine.specs.declared.frame.Frame as frames
 use Rattle.wasm_machine.specs.declared.frame.Label.{Label}
 use Rattle.wasm_machine.specs.declared.frame.Caller.{Caller}
 use Rattle.wasm_machine.specs.declared.frame.Caller.TheVariants.{Host, Function}
 use Rattle.wasm_machine.specs.declared.frame.Event.{Event}
-use Rattle.wasm_machine.specs.declared.frame.Event.TheVariants.{Goes, Gives, Asks}
+use Rattle.wasm_machine.specs.declared.frame.Event.TheVariants.{Goes, Leaves}
 use Rattle.wasm_machine.specs.declared.frame.Pause.{Pause}
 use Rattle.wasm_machine.specs.declared.frame.Pause.TheVariants as pauses
 use Rattle.wasm_machine.specs.declared.frame.Next as nexts
 use Rattle.wasm_machine.specs.declared.frame.Next.TheVariants.{Enter, Give}
 use Rattle.wasm_machine.specs.declared.frame.Step.{Step}
-use Rattle.wasm_machine.specs.declared.frame.Step.TheVariants.{Next, Stops}
+use Rattle.wasm_machine.specs.declared.frame.Step.TheVariants.{Runs, Stops}
 use Rattle.wasm_machine.specs.declared.stop.Stop.{Stop}
 use Rattle.wasm_machine.specs.declared.stop.Stop.TheVariants as stops
 use Rattle.wasm_machine.specs.declared.state.State as states
 use Rattle.wasm_machine.specs.Acts.{Act, Standing, done, out_of_gas, ask}
 use Rattle.wasm_machine.specs.Start.{code_at}
 use Rattle.wasm_machine.specs.Effects.{State}
-use Rattle.wasm_machine.specs.Exec.{Ahead, Outcome, jumps, gives, stands, trapped, Move, follows, from, enter, host, Frame, handed, behind, closes, turns, result_of, finishes, resumes, hosted, run}
+use Rattle.wasm_machine.specs.Exec.{Ahead, Outcome, gives, stands, trapped, Move, follows, from, enter, host, Frame, handed, behind, closes, turns, result_of, finishes, resumes, hosted, run}
 use Rattle.wasm_machine.specs.Piles.{all, below, span, own}
 use Rattle.wasm_machine.specs.Values.{beside, shared_of, seen}
 
@@ -92,24 +93,47 @@ called_with m s o = through m (reverse s.callers.items) (below s.values.operands
 
 -- ---- what a step of the machine leads to
 
--- an instruction that comes next counts, so that no run goes on for ever
-abbrev pub weight : Event → ℕ
-weight (Goes frame) = 1
-weight (Gives value) = 0
-weight (Asks i args) = 0
+-- what the newest call does next
+abbrev pub next_at : PlainModule → states.State → nexts.Next → Ahead → Outcome
+next_at m s (Enter func) a = called_with m s (entered m s func a)
+next_at m s (Give value) a = giving m s value a
 
--- what comes of an event
-abbrev pub comes_to : PlainModule → states.State → Event → Ahead → Outcome
-comes_to m s (Goes frame) a = running m s frame a
-comes_to m s (Gives value) a = giving m s value a
-comes_to m s (Asks i args) a = waiting m s (ask i args.items) a
+-- the same function at another place
+abbrev pub at_place : frames.Frame → ℕ → frames.Frame
+at_place f place = record f { place = place }
 
--- a step answered this and left this state: what comes of it is the outcome
-abbrev pub Leads : PlainModule → Result Event Stop → states.State → Ahead → Outcome → Type 0
-Leads m (Ok event) s a o = o ≡ comes_to m s event a
-Leads m (Err (stops.Trap kind)) s a o = o ≡ trapped kind (shared_of s.values) a
-Leads m (Err stops.OutOfGas) s a o = o ≡ stands out_of_gas (shared_of s.values) a.left
-Leads m (Err stops.NoMemory) s a o = ⊤
+-- what comes next counts, so that no run goes on for ever
+abbrev pub next_weight : nexts.Next → ℕ
+next_weight (Enter func) = 2
+next_weight (Give value) = 0
+
+abbrev pub weight : states.State → Event → ℕ
+weight s (Goes place) = 1
+weight s Leaves = next_weight s.next
+
+-- what comes of an event in the function that runs
+abbrev pub comes_to : PlainModule → frames.Frame → states.State → Event → Ahead → Outcome
+comes_to m f s (Goes place) a = running m s (at_place f place) a
+comes_to m f s Leaves a = next_at m s s.next a
+
+abbrev pub StopsAt : Stop → states.State → Ahead → Outcome → Type 0
+StopsAt (stops.Trap kind) s a o = o ≡ trapped kind (shared_of s.values) a
+StopsAt stops.OutOfGas s a o = o ≡ stands out_of_gas (shared_of s.values) a.left
+StopsAt stops.NoMemory s a o = ⊤
+
+-- an instruction of the function answered this and left this state: what comes of it is the outcome
+abbrev pub Leads : PlainModule → frames.Frame → Result Event Stop → states.State → Ahead → Outcome → Type 0
+Leads m f (Ok event) s a o = o ≡ comes_to m f s event a
+Leads m f (Err stop) s a o = StopsAt stop s a o
+
+-- the instructions and the labels of a code
+abbrev pub IsBodyOf : PlainCode → List Instr → List ℕ → Type 0
+IsBodyOf code instrs targets = (instrs ≡ code.body) × (targets ≡ code.targets)
+
+-- the function was left
+abbrev pub LeadsOut : {A : Type 0} → PlainModule → Result A Stop → states.State → Ahead → Outcome → Type 0
+LeadsOut m (Ok u) s a o = o ≡ next_at m s s.next a
+LeadsOut m (Err stop) s a o = StopsAt stop s a o
 
 -- a move in the innermost block of the function that runs, which goes on at the place of its frame
 abbrev pub moved : PlainModule → states.State → frames.Frame → Move → Outcome
@@ -139,12 +163,10 @@ closing m s frame l inner a =
     (behind (run m) (frame_at m s.depth frame) (length (all s.values.locals) + length ops) l.after
     (handed l.result inner.operands (reverse (drop l.floor (below s.values.operands)))) inner a)
 
--- a branch to a label that was taken away, in such a state
-abbrev pub reaching : PlainModule → states.State → frames.Frame → Label → State → Ahead → Outcome
-reaching m s frame l inner a =
-    blocks m (frame_at m s.depth frame) (length (all s.values.locals))
-    (ending m (reverse s.callers.items) (below s.values.locals) (below s.labels) s.depth frame.result)
-    (l ∷ own s.labels) (below s.values.operands) (jumps 0 inner a)
+-- where a branch to a label begins the next turn, if the label is that of a loop
+abbrev pub start_of : Option Label → Option ℕ
+start_of None = None
+start_of (Some l) = l.start
 
 -- a function without open blocks is at its end, in such a state
 abbrev pub finishing : PlainModule → states.State → frames.Frame → State → Ahead → Outcome
@@ -171,14 +193,13 @@ abbrev pub pauses_at : PlainModule → states.State → Pause → Ahead → Outc
 pauses_at m s (pauses.Done value) a = waiting m s (done value) a
 pauses_at m s (pauses.Asks i args) a = waiting m s (ask i args.items) a
 
-abbrev pub StopsAt : Stop → states.State → Ahead → Outcome → Type 0
-StopsAt (stops.Trap kind) s a o = o ≡ trapped kind (shared_of s.values) a
-StopsAt stops.OutOfGas s a o = o ≡ stands out_of_gas (shared_of s.values) a.left
-StopsAt stops.NoMemory s a o = ⊤
+-- what comes of a step
+abbrev pub steps_to : PlainModule → states.State → Step → Ahead → Outcome
+steps_to m s (Runs frame) a = running m s frame a
+steps_to m s (Stops pause) a = pauses_at m s pause a
 
 abbrev pub LeadsTo : PlainModule → Result Step Stop → states.State → Ahead → Outcome → Type 0
-LeadsTo m (Ok (Next event)) s a o = o ≡ comes_to m s event a
-LeadsTo m (Ok (Stops pause)) s a o = o ≡ pauses_at m s pause a
+LeadsTo m (Ok step) s a o = o ≡ steps_to m s step a
 LeadsTo m (Err stop) s a o = StopsAt stop s a o
 
 abbrev pub Pauses : PlainModule → Result Pause Stop → states.State → Ahead → Outcome → Type 0
@@ -191,14 +212,9 @@ HostsAfter (pauses.Done value) old new = old ≡ suc new
 HostsAfter (pauses.Asks i args) old new = new ≡ old
 
 abbrev pub StepHosts : Step → ℕ → ℕ → Type 0
-StepHosts (Next event) old new = new ≡ old
+StepHosts (Runs frame) old new = new ≡ old
 StepHosts (Stops pause) old new = HostsAfter pause old new
 
 abbrev pub IsBelow : Step → ℕ → ℕ → Type 0
-IsBelow (Next event) old new = new + weight event < old
+IsBelow (Runs frame) old new = new + 1 < old
 IsBelow (Stops pause) old new = ⊤
-
--- what the newest call does next
-abbrev pub next_at : PlainModule → states.State → nexts.Next → Ahead → Outcome
-next_at m s (Enter func) a = called_with m s (entered m s func a)
-next_at m s (Give value) a = giving m s value a

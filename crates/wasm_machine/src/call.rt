@@ -5,9 +5,9 @@ ghost use Rattle.wasm_machine.specs.Effects.{most_values, with_operands};
 ghost use Rattle.wasm_machine.specs.Exec.{Ahead, calls, gives, most_frames, enters_code, run};
 ghost use Rattle.wasm_machine.specs.Piles.{all, below, span, own};
 ghost use Rattle.wasm_machine.specs.Values.{beside, seen, shared_of};
-ghost use Rattle.wasm_machine.specs.Rests.{hosts, weight, Leads, LeadsOn, moved, through, giving, called_with, entered};
+ghost use Rattle.wasm_machine.specs.Rests.{hosts, StepHosts, LeadsTo, LeadsOn, moved, through, giving, called_with, entered};
 
-use crate::frame::{Caller, Event, Frame};
+use crate::frame::{Caller, Frame, Pause, Step};
 use crate::functions::{func_type, imported, locals_at};
 use crate::pile::Pile;
 use crate::state::State;
@@ -112,6 +112,7 @@ impl State {
     }
 
     /// The topmost operands are set apart as arguments of a function, and this one waits.
+    #[inline(always)]
     pub fn suspend(&mut self, frame: Frame, args: usize) -> Result<(), Stop>
         requires { args ≤ length (own self.old.values.operands) }
         ensures leads { OnOk result ((m : PlainModule) (func : ℕ) (a : Ahead) →
@@ -138,17 +139,18 @@ impl State {
     }
 
     /// A function is entered, with the operands as its arguments.
-    pub fn enter(&mut self, alloc: Global, module: &Module, func: u32) -> Result<Event, Stop>
-        ensures leads { (a : Ahead) → Leads (plain_module module.now) result self.new a
+    pub fn enter(&mut self, alloc: Global, module: &Module, func: u32) -> Result<Step, Stop>
+        ensures leads { (a : Ahead) → LeadsTo (plain_module module.now) result self.new a
             (called_with (plain_module module.now) self.old (entered (plain_module module.now) self.old func a)) }
         ensures callers { self.new.callers ≡ self.old.callers }
-        ensures sinks { IfOk result (λ e. length (all self.new.labels) + weight e ≤ length (all self.old.labels) + 1) }
+        ensures hosts { IfOk result (λ step. StepHosts step (hosts self.old.callers.items) (hosts self.new.callers.items)) }
+        ensures labels { OnOk result (length (all self.new.labels) ≤ length (all self.old.labels)) }
     {
         let imported = imported(module);
         if (func as usize) < imported {
             let args = Vec::from_slice(alloc, self.values.operands.own_items())?;
             self.values.operands.clear();
-            return Ok(Event::Asks { import: func, args });
+            return Ok(Step::Stops(Pause::Asks { import: func, args }));
         }
         match func_type(module, func) {
             Some(ty) => self.begin(module, func as usize - imported, ty.result),
@@ -165,13 +167,14 @@ impl State {
     }
 
     /// A function of the module begins.
-    fn begin(&mut self, module: &Module, code: usize, ty: Option<ValType>) -> Result<Event, Stop>
-        ensures leads { (a : Ahead) → Leads (plain_module module.now) result self.new a
+    fn begin(&mut self, module: &Module, code: usize, ty: Option<ValType>) -> Result<Step, Stop>
+        ensures leads { (a : Ahead) → LeadsTo (plain_module module.now) result self.new a
             (called_with (plain_module module.now) self.old (enters_code (run (plain_module module.now)) self.old.depth
             (length (all self.old.values.locals) + length (below self.old.values.operands)) ty
             (code_at (plain_module module.now) code) (span self.old.values.operands) (shared_of self.old.values) a)) }
         ensures callers { self.new.callers ≡ self.old.callers }
-        ensures sinks { IfOk result (λ e. length (all self.new.labels) + weight e ≤ length (all self.old.labels) + 1) }
+        ensures hosts { IfOk result (λ step. StepHosts step (hosts self.old.callers.items) (hosts self.new.callers.items)) }
+        ensures labels { OnOk result (length (all self.new.labels) ≤ length (all self.old.labels)) }
     {
         let locals = locals_at(module, code);
         if !self.has_room(locals.len()) {
@@ -183,7 +186,7 @@ impl State {
         push_zeros(&mut self.values.locals, locals)?;
         self.values.operands.clear();
         self.depth += 1;
-        Ok(Event::Goes(Frame {
+        Ok(Step::Runs(Frame {
             code,
             place: 0,
             result: ty,

@@ -31,15 +31,21 @@ pub(crate) enum Caller {
     },
 }
 
-/// What a machine comes to.
-#[derive(Debug, Drop)]
+/// What an instruction comes to in the function that runs.
+#[derive(Clone, Copy, Debug, PartialEq, Eq)]
 pub(crate) enum Event {
-    /// The next instruction of a function.
-    Goes(Frame),
-    /// The end of a call.
-    Gives(Option<Value>),
-    /// A call of an import.
-    Asks { import: u32, args: Vec<Value> },
+    /// The instruction at a place of the function.
+    Goes(usize),
+    /// The function ends, or calls another one and waits: the state has what comes next.
+    Leaves,
+}
+
+/// What the newest call comes to where no function runs.
+#[derive(Debug, Drop)]
+pub(crate) enum Step {
+    /// A function runs.
+    Runs(Frame),
+    Stops(Pause),
 }
 
 /// Where a run comes to a stop that isn't the end of everything.
@@ -49,13 +55,6 @@ pub(crate) enum Pause {
     Done(Option<Value>),
     /// An import was called.
     Asks { import: u32, args: Vec<Value> },
-}
-
-/// What comes of an event.
-#[derive(Debug, Drop)]
-pub(crate) enum Step {
-    Next(Event),
-    Stops(Pause),
 }
 
 /// What the newest call does when it is run next.

@@ -2,12 +2,13 @@ ghost use Rattle.std.specs.Prelude.{◌≡◌, ◌<◌, OnSome, length, slice_ge
 ghost use Rattle.std.specs.Option.{option_map};
 ghost use Rattle.wasm_types.specs.Plain.{plain_module, plain_func_type, plain_code};
 ghost use Rattle.wasm_machine.specs.Start.{imported, desc_type, type_index, func_type, code_at};
+ghost use Rattle.wasm_machine.specs.Rests.{IsBodyOf};
 ghost use Rattle.wasm_machine.specs.Exec.{declared, same_type, same_results, same_params, same_func_types};
 
-use wasm_types::{Code, Desc, FuncType, Instr, Module, ValType};
+use wasm_types::{Desc, FuncType, Instr, Module, ValType};
 
 /// The item at a place.
-#[inline]
+#[inline(always)]
 pub(crate) fn item_at<T: Copy>(items: &[T], place: usize) -> Option<T>
     ensures { result ≡ slice_get items.now place }
 {
@@ -78,26 +79,26 @@ pub(crate) fn declared(module: &Module, func: u32) -> usize
     locals_at(module, func as usize - imported).len()
 }
 
-/// The instruction at a place of a function's body.
-#[inline]
-pub(crate) fn instr_at(module: &Module, code: usize, place: usize) -> Option<Instr>
-    ensures instr { result ≡ slice_get (code_at (plain_module module.now) code).body place }
-    ensures place { OnSome result (place < usize.MAX) }
-{
-    match module.codes.get(code) {
-        Some(code) => item_at(&code.body, place),
-        None => None,
-    }
+/// What a function of the module runs: its instructions, and the labels of its `br_table`s.
+#[derive(Clone, Copy)]
+pub(crate) struct Body<'a> {
+    pub instrs: &'a [Instr],
+    pub targets: &'a [u32],
 }
 
-/// One of the labels of a function's `br_table`s.
-#[inline]
-pub(crate) fn target_at(module: &Module, code: usize, i: usize) -> Option<u32>
-    ensures { result ≡ slice_get (code_at (plain_module module.now) code).targets i }
+/// The body of a function of the module.
+pub(crate) fn body_at(module: &Module, code: usize) -> Body<'_>
+    ensures { IsBodyOf (code_at (plain_module module.now) code) result.instrs.now result.targets.now }
 {
     match module.codes.get(code) {
-        Some(code) => item_at(&code.targets, i),
-        None => None,
+        Some(code) => Body {
+            instrs: &code.body,
+            targets: &code.targets,
+        },
+        None => Body {
+            instrs: &[],
+            targets: &[],
+        },
     }
 }
 

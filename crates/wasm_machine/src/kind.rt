@@ -1,7 +1,5 @@
 ghost use Rattle.std.specs.Prelude.{◌≡◌};
-ghost use Rattle.wasm_machine.specs.Kinds.{plain_kind, index_kind, width, opcode, is_marker};
-
-use wasm_types::{Instr, Value};
+ghost use Rattle.wasm_machine.specs.Kinds.{plain_kind, index_kind, width};
 
 /// The instructions without an operand in the code.
 #[derive(Clone, Copy, Debug, PartialEq, Eq)]
@@ -35,6 +33,7 @@ pub enum IndexKind {
     Unreachable,
 }
 
+#[inline(always)]
 pub(crate) fn plain_kind(op: u8) -> PlainKind
     ensures { result ≡ plain_kind op }
 {
@@ -53,6 +52,7 @@ pub(crate) fn plain_kind(op: u8) -> PlainKind
     }
 }
 
+#[inline(always)]
 pub(crate) fn index_kind(op: u8) -> IndexKind
     ensures { result ≡ index_kind op }
 {
@@ -70,6 +70,7 @@ pub(crate) fn index_kind(op: u8) -> IndexKind
 }
 
 /// How many bytes a load or a store moves.
+#[inline(always)]
 pub(crate) fn width(op: u8) -> Option<u8>
     ensures { result ≡ width op }
 {
@@ -79,67 +80,5 @@ pub(crate) fn width(op: u8) -> Option<u8>
         0x28 | 0x34 | 0x35 | 0x36 | 0x3E => Some(4),
         0x29 | 0x37 => Some(8),
         _ => None,
-    }
-}
-
-/// The opcode of an instruction.
-pub(crate) fn opcode(instr: Instr) -> u8
-    ensures { result ≡ opcode instr }
-{
-    match instr {
-        Instr::Op(op) => op,
-        Instr::Index { op, index: _ } => op,
-        Instr::CallIndirect { ty: _ } => 0x11,
-        Instr::BrTable {
-            first: _,
-            count: _,
-            default: _,
-        } => 0x0E,
-        Instr::Mem {
-            op,
-            align: _,
-            offset: _,
-        } => op,
-        Instr::Const(Value::I32(_)) => 0x41,
-        Instr::Const(Value::I64(_)) => 0x42,
-        Instr::Block { result: _, end: _ } => 0x02,
-        Instr::Loop { result: _, end: _ } => 0x03,
-        Instr::If {
-            result: _,
-            els: _,
-            end: _,
-        } => 0x04,
-        Instr::Else { end: _ } => 0x05,
-        Instr::End => 0x0B,
-    }
-}
-
-/// Whether an instruction is `else` or `end`.
-pub(crate) fn is_marker(instr: Instr) -> bool
-    ensures { result ≡ is_marker instr }
-{
-    match instr {
-        Instr::Else { end: _ } | Instr::End => true,
-        Instr::Op(_)
-        | Instr::Index { op: _, index: _ }
-        | Instr::CallIndirect { ty: _ }
-        | Instr::BrTable {
-            first: _,
-            count: _,
-            default: _,
-        }
-        | Instr::Mem {
-            op: _,
-            align: _,
-            offset: _,
-        }
-        | Instr::Const(_)
-        | Instr::Block { result: _, end: _ }
-        | Instr::Loop { result: _, end: _ }
-        | Instr::If {
-            result: _,
-            els: _,
-            end: _,
-        } => false,
     }
 }

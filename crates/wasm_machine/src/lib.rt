@@ -12,6 +12,7 @@ mod laws;
 mod machine;
 mod numbers;
 mod pile;
+mod prices;
 mod run;
 mod start;
 mod state;
@@ -21,6 +22,6 @@ mod tests;
 mod turn;
 mod values;
 
-pub use laws::acts_tell_what_stands;
+pub use laws::{acts_tell_what_stands, more_gas_only_leaves_more};
 pub use machine::Machine;
 pub use turn::{Phase, TrapKind, Turn};

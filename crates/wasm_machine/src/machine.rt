@@ -25,7 +25,6 @@ pub struct Machine {
     module: Arc<Module>,
     table: Vec<Option<u32>>,
     state: State,
-    next: Next,
     phase: Phase,
 }
 
@@ -54,12 +53,12 @@ impl Machine {
             labels: Pile::new(alloc),
             callers: Vec::new(alloc),
             depth: 0,
+            next: Next::Give(None),
         };
         Ok(Machine {
             module,
             table,
             state,
-            next: Next::Give(None),
             phase: Phase::Idle,
         })
     }
@@ -103,7 +102,7 @@ impl Machine {
         let phase = self.phase;
         self.phase = Phase::Spent;
         self.state.begin_call(args)?;
-        self.next = Next::Enter(func);
+        self.state.next = Next::Enter(func);
         self.phase = called(phase);
         Ok(())
     }
@@ -116,7 +115,7 @@ impl Machine {
         ensures phase { phase_of self.new ≡ answered (phase_of self.old) }
         ensures module { module_of self.new ≡ module_of self.old }
     {
-        self.next = Next::Give(answer);
+        self.state.next = Next::Give(answer);
         self.phase = answered(self.phase);
     }
 
@@ -148,7 +147,7 @@ impl Machine {
             table: &self.table,
             costs,
         };
-        match self.state.run(alloc, &code, self.next, meter) {
+        match self.state.run(alloc, &code, meter) {
             Ok(pause) => {
                 self.phase = after_pause(&pause, phase);
                 Ok(turn_of(pause))

@@ -6,6 +6,7 @@ use crate::turn::TrapKind;
 use int_ops::{Num, NumTrap, unary};
 use wasm_types::Value;
 
+#[inline(always)]
 pub(crate) fn num_of(value: Value) -> Num
     ensures { result ≡ num_of value }
 {
@@ -15,6 +16,7 @@ pub(crate) fn num_of(value: Value) -> Num
     }
 }
 
+#[inline(always)]
 pub(crate) fn value_of(num: Num) -> Value
     ensures { result ≡ value_of num }
 {
@@ -24,6 +26,7 @@ pub(crate) fn value_of(num: Num) -> Value
     }
 }
 
+#[inline(always)]
 pub(crate) fn trap_of(trap: NumTrap) -> TrapKind
     ensures { result ≡ trap_of trap }
 {
@@ -35,6 +38,7 @@ pub(crate) fn trap_of(trap: NumTrap) -> TrapKind
 
 #[tactic(auto, using(crate::proofs::Loads::narrow), unfolding(int_ops::specs::Numerics::num))]
 /// The value of a load, from the number that its bytes spell.
+#[inline(always)]
 pub(crate) fn loaded(op: u8, n: u64) -> Value
     requires bound { IfSome (width op) (λ bytes. n < 2 ^ (8 * bytes)) }
     requires some { IsSome (width op) }
@@ -53,6 +57,7 @@ pub(crate) fn loaded(op: u8, n: u64) -> Value
 }
 
 /// The number that a store writes, of which the lowest bytes count.
+#[inline(always)]
 pub(crate) fn stored(op: u8, value: Value) -> Option<u64>
     ensures { result ≡ stored op value }
 {

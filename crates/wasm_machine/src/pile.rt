@@ -1,4 +1,4 @@
-ghost use Rattle.std.specs.Prelude.{◌≡◌, ◌+◌, ◌∷◌, ◌++◌, ◌<◌, ◌≤◌, [], length, take, OnOk, MatchOption, slice_get, slice_set, drop, reverse};
+ghost use Rattle.std.specs.Prelude.{◌≡◌, ◌+◌, ◌^◌, ◌∷◌, ◌++◌, ◌<◌, ◌≤◌, [], length, take, OnOk, MatchOption, slice_get, slice_set, drop, reverse};
 
 use std::alloc::{AllocError, Global};
 
@@ -25,15 +25,16 @@ impl<T: Copy> Pile<T> {
     }
 
     /// How many items there are, those of what waits among them.
-    #[inline]
+    #[inline(always)]
     pub fn len(&self) -> usize
-        ensures { result ≡ length (all self.now) }
+        ensures length { result ≡ length (all self.now) }
+        ensures small { result < 2 ^ 63 }
     {
         self.items.len()
     }
 
     /// How many items belong to what runs.
-    #[inline]
+    #[inline(always)]
     pub fn own_len(&self) -> usize
         ensures own { result ≡ length (own self.now) }
         ensures span { result ≡ length (span self.now) }
@@ -41,7 +42,7 @@ impl<T: Copy> Pile<T> {
         self.items.len() - self.floor
     }
 
-    #[inline]
+    #[inline(always)]
     pub fn push(&mut self, item: T) -> Result<(), AllocError>
         ensures own { OnOk result (own self.new ≡ item ∷ own self.old) }
         ensures span { OnOk result (span self.new ≡ span self.old ++ item ∷ []) }
@@ -54,7 +55,7 @@ impl<T: Copy> Pile<T> {
         }
     }
 
-    #[inline]
+    #[inline(always)]
     pub fn pop(&mut self) -> Option<T>
         ensures own { MatchOption result ((own self.old ≡ []) × (own self.new ≡ [])) (λ item. own self.old ≡ item ∷ own self.new) }
         ensures below { below self.new ≡ below self.old }
@@ -67,7 +68,7 @@ impl<T: Copy> Pile<T> {
     }
 
     /// The topmost item of what runs.
-    #[inline]
+    #[inline(always)]
     pub fn top(&self) -> Option<T>
         ensures { result ≡ slice_get (own self.now) 0 }
     {
@@ -77,7 +78,7 @@ impl<T: Copy> Pile<T> {
         Some(self.items[self.items.len() - 1])
     }
 
-    #[inline]
+    #[inline(always)]
     pub fn get(&self, i: usize) -> Option<T>
         ensures { result ≡ slice_get (span self.now) i }
     {
@@ -88,7 +89,7 @@ impl<T: Copy> Pile<T> {
         }
     }
 
-    #[inline]
+    #[inline(always)]
     pub fn set(&mut self, i: usize, item: T)
         requires { i < length (span self.old) }
         ensures span { span self.new ≡ slice_set (span self.old) i item }
@@ -99,7 +100,7 @@ impl<T: Copy> Pile<T> {
     }
 
     /// From now on none of the items belongs to what runs. Answers where the floor was.
-    #[inline]
+    #[inline(always)]
     pub fn raise(&mut self) -> usize
         ensures floor { below self.old ≡ take result (all self.old) }
         ensures from { span self.old ≡ drop result (all self.old) }
@@ -114,7 +115,7 @@ impl<T: Copy> Pile<T> {
     }
 
     /// From now on only the topmost items belong to what runs. Answers where the floor was.
-    #[inline]
+    #[inline(always)]
     pub fn raise_over(&mut self, count: usize) -> usize
         requires { count ≤ length (own self.old) }
         ensures floor { below self.old ≡ take result (below self.new) }
@@ -128,7 +129,7 @@ impl<T: Copy> Pile<T> {
     }
 
     /// Drops what belongs to what runs.
-    #[inline]
+    #[inline(always)]
     pub fn clear(&mut self)
         ensures all { all self.new ≡ below self.old }
         ensures below { below self.new ≡ below self.old }
@@ -140,7 +141,7 @@ impl<T: Copy> Pile<T> {
     }
 
     /// Sets the floor down to where it was.
-    #[inline]
+    #[inline(always)]
     pub fn reset(&mut self, floor: usize)
         ensures all { all self.new ≡ all self.old }
         ensures below { below self.new ≡ take floor (below self.old) }
@@ -150,7 +151,7 @@ impl<T: Copy> Pile<T> {
     }
 
     /// Sets the floor to where it was when only the items below it waited.
-    #[inline]
+    #[inline(always)]
     pub fn restore(&mut self, floor: usize)
         ensures all { all self.new ≡ all self.old }
         ensures below { below self.new ≡ take floor (all self.old) }
@@ -160,6 +161,7 @@ impl<T: Copy> Pile<T> {
     }
 
     /// What belongs to what runs, the lowest first.
+    #[inline(always)]
     pub fn own_items(&self) -> &[T]
         ensures { result.now ≡ span self.now }
     {

@@ -1,94 +1,85 @@
-ghost use Rattle.std.specs.Prelude.{◌≡◌, ◌+◌, ◌*◌, ◌≤◌, List, IfOk};
+ghost use Rattle.std.specs.Prelude.{◌≡◌, ◌+◌, ◌*◌, ◌≤◌, List, IfOk, OnOk};
 ghost use Rattle.gas_meter.specs.Ranges.{IsInRange};
 ghost use Rattle.wasm_types.specs.Plain.{plain_module};
 ghost use Rattle.wasm_machine.specs.Acts.{Act};
-ghost use Rattle.wasm_machine.specs.Start.{table};
-ghost use Rattle.wasm_machine.specs.Rests.{weight, hosts, height, ahead, comes_to, LeadsTo, Pauses, HostsAfter, StepHosts, IsBelow, next_at};
+ghost use Rattle.wasm_machine.specs.Exec.{Ahead};
+ghost use Rattle.wasm_machine.specs.Start.{table, code_at};
+ghost use Rattle.wasm_machine.specs.Rests.{next_weight, hosts, height, ahead, running, LeadsTo, LeadsOut, Pauses, HostsAfter, StepHosts, IsBelow, next_at, IsBodyOf};
 
 use crate::advance::Code;
-use crate::frame::{Event, Next, Pause, Step};
+use crate::frame::{Event, Frame, Next, Pause, Step};
+use crate::functions::{Body, body_at};
 use crate::state::State;
 use crate::stop::Stop;
 use gas_meter::Meter;
 use std::alloc::Global;
+use wasm_types::Module;
 
 impl State {
-    /// What comes of an event.
-    fn step(
-        &mut self,
-        alloc: Global,
-        code: &Code,
-        event: Event,
-        meter: &mut Meter,
-    ) -> Result<Step, Stop>
-        requires { IsInRange code.now.costs.now }
-        ensures leads { (acts : List Act) → 1 ≤ hosts self.old.callers.items → code.now.table.now ≡ table (plain_module code.now.module.now) →
-            LeadsTo (plain_module code.now.module.now) result self.new (ahead meter.new.left code.now.costs.now acts)
-            (comes_to (plain_module code.now.module.now) self.old event (ahead meter.old.left code.now.costs.now acts)) }
+    /// What the newest call does next, up to where a function runs or the call stops.
+    fn step(&mut self, alloc: Global, module: &Module) -> Result<Step, Stop>
+        ensures leads { (a : Ahead) → 1 ≤ hosts self.old.callers.items →
+            LeadsTo (plain_module module.now) result self.new a (next_at (plain_module module.now) self.old self.old.next a) }
         ensures hosts { IfOk result (λ step. StepHosts step (hosts self.old.callers.items) (hosts self.new.callers.items)) }
-        ensures sinks { IfOk result (λ step. IsBelow step (5 * meter.old.left + height self.old + weight event) (5 * meter.new.left + height self.new)) }
-        ensures left { meter.new.left ≤ meter.old.left }
-        ensures used { meter.new.left + meter.new.used ≡ meter.old.left + meter.old.used }
+        ensures sinks { IfOk result (λ step. IsBelow step (height self.old + next_weight self.old.next) (height self.new)) }
     {
-        match event {
-            Event::Goes(frame) => {
-                let next = self.advance(alloc, code, frame, meter)?;
-                Ok(Step::Next(next))
-            }
-            Event::Gives(value) => match self.give(value)? {
-                Some(frame) => Ok(Step::Next(Event::Goes(frame))),
+        match self.next {
+            Next::Enter(func) => self.enter(alloc, module, func),
+            Next::Give(value) => match self.give(value)? {
+                Some(frame) => Ok(Step::Runs(frame)),
                 None => Ok(Step::Stops(Pause::Done(value))),
             },
-            Event::Asks { import, args } => Ok(Step::Stops(Pause::Asks { import, args })),
         }
     }
 
-    fn go_on(
+    /// A function runs, up to its end or to a call.
+    fn go(
         &mut self,
         alloc: Global,
         code: &Code,
-        first: Event,
+        body: Body,
+        frame: Frame,
         meter: &mut Meter,
-    ) -> Result<Pause, Stop>
+    ) -> Result<(), Stop>
+        requires costs { IsInRange code.now.costs.now }
+        requires body { IsBodyOf (code_at (plain_module code.now.module.now) frame.code) body.instrs.now body.targets.now }
+        ensures leads { (acts : List Act) → code.now.table.now ≡ table (plain_module code.now.module.now) →
+            LeadsOut (plain_module code.now.module.now) result self.new (ahead meter.new.left code.now.costs.now acts)
+            (running (plain_module code.now.module.now) self.old frame (ahead meter.old.left code.now.costs.now acts)) }
+        ensures hosts { OnOk result (hosts self.new.callers.items ≡ hosts self.old.callers.items) }
+        ensures sinks { OnOk result (5 * meter.new.left + height self.new + next_weight self.new.next ≤ 5 * meter.old.left + height self.old) }
+        ensures left { meter.new.left ≤ meter.old.left }
+        ensures used { meter.new.left + meter.new.used ≡ meter.old.left + meter.old.used }
+    {
+        let mut place = frame.place;
+        loop {
+            let here = Frame { place, ..frame };
+            match self.advance(alloc, code, body, here, meter) {
+                Ok(Event::Goes(onward)) => place = onward,
+                Ok(Event::Leaves) => return Ok(()),
+                Err(stop) => return Err(stop),
+            }
+        }
+    }
+
+    /// Goes on with the newest call, up to its end or to a call of an import.
+    pub fn run(&mut self, alloc: Global, code: &Code, meter: &mut Meter) -> Result<Pause, Stop>
         requires { IsInRange code.now.costs.now }
         ensures leads { (acts : List Act) → 1 ≤ hosts self.old.callers.items → code.now.table.now ≡ table (plain_module code.now.module.now) →
             Pauses (plain_module code.now.module.now) result self.new (ahead meter.new.left code.now.costs.now acts)
-            (comes_to (plain_module code.now.module.now) self.old first (ahead meter.old.left code.now.costs.now acts)) }
+            (next_at (plain_module code.now.module.now) self.old self.old.next (ahead meter.old.left code.now.costs.now acts)) }
         ensures hosts { IfOk result (λ pause. HostsAfter pause (hosts self.old.callers.items) (hosts self.new.callers.items)) }
         ensures left { meter.new.left ≤ meter.old.left }
         ensures used { meter.new.left + meter.new.used ≡ meter.old.left + meter.old.used }
     {
-        let mut event = first;
         loop {
-            match self.step(alloc, code, event, meter)? {
-                Step::Next(next) => event = next,
+            match self.step(alloc, code.module)? {
+                Step::Runs(frame) => {
+                    let body = body_at(code.module, frame.code);
+                    self.go(alloc, code, body, frame, meter)?;
+                }
                 Step::Stops(pause) => return Ok(pause),
             }
-        }
-    }
-
-    /// Goes on with the newest call.
-    pub fn run(
-        &mut self,
-        alloc: Global,
-        code: &Code,
-        next: Next,
-        meter: &mut Meter,
-    ) -> Result<Pause, Stop>
-        requires { IsInRange code.now.costs.now }
-        ensures leads { (acts : List Act) → 1 ≤ hosts self.old.callers.items → code.now.table.now ≡ table (plain_module code.now.module.now) →
-            Pauses (plain_module code.now.module.now) result self.new (ahead meter.new.left code.now.costs.now acts)
-            (next_at (plain_module code.now.module.now) self.old next (ahead meter.old.left code.now.costs.now acts)) }
-        ensures hosts { IfOk result (λ pause. HostsAfter pause (hosts self.old.callers.items) (hosts self.new.callers.items)) }
-        ensures left { meter.new.left ≤ meter.old.left }
-        ensures used { meter.new.left + meter.new.used ≡ meter.old.left + meter.old.used }
-    {
-        match next {
-            Next::Enter(func) => {
-                let first = self.enter(alloc, code.module, func)?;
-                self.go_on(alloc, code, first, meter)
-            }
-            Next::Give(value) => self.go_on(alloc, code, Event::Gives(value), meter),
         }
     }
 }

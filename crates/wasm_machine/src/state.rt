@@ -1,4 +1,4 @@
-use crate::frame::{Caller, Label};
+use crate::frame::{Caller, Label, Next};
 use crate::pile::Pile;
 use crate::values::Values;
 
@@ -10,4 +10,6 @@ pub(crate) struct State {
     pub callers: Vec<Caller>,
     /// How many frames are under way.
     pub depth: usize,
+    /// What the newest call does where no function runs.
+    pub next: Next,
 }

@@ -1,4 +1,4 @@
-ghost use Rattle.std.specs.Prelude.{◌≡◌, ◌+◌, ◌≤◌, nat_le, length, Some};
+ghost use Rattle.std.specs.Prelude.{◌≡◌, ◌+◌, ◌≤◌, nat_lt, nat_le, length, Some};
 ghost use Rattle.wasm_machine.specs.Kinds.{width};
 
 use crate::kind::{IndexKind, PlainKind, width};
@@ -27,9 +27,18 @@ impl Values {
     /// No more operands and locals than this stand over all calls that are under way.
     pub const MOST: usize = 131_072;
 
+    /// Whether there may be one more operand.
+    #[tactic(auto, using(crate::proofs::Piles::size_split))]
+    #[inline(always)]
+    fn has_place(&self) -> bool
+        ensures { result ≡ nat_lt (beside self.now + length (own self.now.operands)) most_values }
+    {
+        self.locals.len() + self.operands.len() < Values::MOST
+    }
+
     /// Whether there may be so many more operands and locals.
     #[tactic(auto, using(crate::proofs::Piles::size_split))]
-    #[inline]
+    #[inline(always)]
     pub fn has_room(&self, more: usize) -> bool
         ensures { result ≡ nat_le (beside self.now + length (own self.now.operands) + more) most_values }
     {
@@ -38,11 +47,11 @@ impl Values {
     }
 
     /// One more operand, where there is room.
-    #[inline]
+    #[inline(always)]
     pub fn push(&mut self, value: Value) -> Result<(), Stop>
         ensures { Does result (push (beside self.old) value (seen self.old)) self.old self.new }
     {
-        if !self.has_room(1) {
+        if !self.has_place() {
             return Err(Stop::Trap(TrapKind::StackOverflow));
         }
         self.operands.push(value)?;
@@ -50,6 +59,7 @@ impl Values {
     }
 
     /// What a call gives, if anything, becomes an operand.
+    #[inline(always)]
     pub fn give(&mut self, value: Option<Value>) -> Result<(), Stop>
         ensures { Does result (given (beside self.old) value (seen self.old)) self.old self.new }
     {
@@ -59,7 +69,7 @@ impl Values {
         }
     }
 
-    #[inline]
+    #[inline(always)]
     fn on_one(&mut self, op: u8) -> Result<(), Stop>
         ensures { Does result (on_one op (seen self.old) (own self.old.operands)) self.old self.new }
     {
@@ -74,7 +84,7 @@ impl Values {
         Ok(())
     }
 
-    #[inline]
+    #[inline(always)]
     fn on_two(&mut self, op: u8) -> Result<(), Stop>
         ensures { Does result (on_two op (seen self.old) (own self.old.operands)) self.old self.new }
     {
@@ -98,6 +108,7 @@ impl Values {
         }
     }
 
+    #[inline(always)]
     fn drop_one(&mut self) -> Result<(), Stop>
         ensures { Does result (dropped (seen self.old) (own self.old.operands)) self.old self.new }
     {
@@ -107,6 +118,7 @@ impl Values {
         }
     }
 
+    #[inline(always)]
     fn select(&mut self) -> Result<(), Stop>
         ensures { Does result (chosen (seen self.old) (own self.old.operands)) self.old self.new }
     {
@@ -127,7 +139,7 @@ impl Values {
     }
 
     /// An instruction without an operand in the code.
-    #[inline]
+    #[inline(always)]
     pub fn plain(&mut self, kind: PlainKind, op: u8) -> Result<(), Stop>
         ensures { Does result (plain_effect kind op (beside self.old) (seen self.old)) self.old self.new }
     {
@@ -145,7 +157,7 @@ impl Values {
         }
     }
 
-    #[inline]
+    #[inline(always)]
     fn got(&mut self, value: Option<Value>) -> Result<(), Stop>
         ensures { Does result (got (beside self.old) (seen self.old) value) self.old self.new }
     {
@@ -155,7 +167,7 @@ impl Values {
         }
     }
 
-    #[inline]
+    #[inline(always)]
     fn local_set(&mut self, i: u32) -> Result<(), Stop>
         ensures { Does result (local_set i (seen self.old) (own self.old.operands)) self.old self.new }
     {
@@ -169,7 +181,7 @@ impl Values {
         Ok(())
     }
 
-    #[inline]
+    #[inline(always)]
     fn local_tee(&mut self, i: u32) -> Result<(), Stop>
         ensures { Does result (local_tee i (seen self.old) (own self.old.operands)) self.old self.new }
     {
@@ -183,7 +195,7 @@ impl Values {
         Ok(())
     }
 
-    #[inline]
+    #[inline(always)]
     fn global_set(&mut self, i: u32) -> Result<(), Stop>
         ensures { Does result (global_set i (seen self.old) (own self.old.operands)) self.old self.new }
     {
@@ -198,7 +210,7 @@ impl Values {
     }
 
     /// An instruction on a local or a global.
-    #[inline]
+    #[inline(always)]
     pub fn indexed(&mut self, kind: IndexKind, i: u32) -> Result<(), Stop>
         ensures { Does result (index_effect kind i (beside self.old) (seen self.old)) self.old self.new }
     {
@@ -219,7 +231,7 @@ impl Values {
         }
     }
 
-    #[inline]
+    #[inline(always)]
     fn load(&mut self, op: u8, bytes: u8, offset: u32) -> Result<(), Stop>
         requires width { width op ≡ Some bytes }
         requires load { op ≤ 0x35 }
@@ -240,7 +252,7 @@ impl Values {
         }
     }
 
-    #[inline]
+    #[inline(always)]
     fn store(&mut self, op: u8, bytes: u8, offset: u32) -> Result<(), Stop>
         requires { width op ≡ Some bytes }
         ensures { Does result (store op bytes offset (seen self.old) (own self.old.operands)) self.old self.new }
@@ -267,7 +279,7 @@ impl Values {
     }
 
     /// A load or a store.
-    #[inline]
+    #[inline(always)]
     pub fn access(&mut self, op: u8, offset: u32) -> Result<(), Stop>
         ensures { Does result (memory_effect (width op) op offset (seen self.old)) self.old self.new }
     {

@@ -14,14 +14,14 @@ its_memory : (k : Machine) (acts : List Act) → StandsFor k acts → (stands_af
 unfolding StandsFor memory_of
 its_memory k acts r =
     ap (λ (s : Stands). s.memory) (ap (exec (plain_of k)) (sym (append-nil acts)) ∙ r.goes_on [])
-    ∙ rests_memory k.phase (plain_of k) k.state k.next r.standing r.left r.costs
+    ∙ rests_memory k.phase (plain_of k) k.state k.state.next r.standing r.left r.costs
 
 stays : (k : Machine) (acts more : List Act) → StandsFor k acts → k.phase ≡ Spent → stands_after k (acts ++ more) ≡ stands_after k acts
 unfolding StandsFor
 stays k acts more r spent =
     r.goes_on more
-    ∙ ap (λ p. at_last (rests_in p (plain_of k) k.state k.next r.standing (ahead r.left r.costs more))) spent
-    ∙ ap (λ p. at_last (rests_in p (plain_of k) k.state k.next r.standing (ahead r.left r.costs []))) (sym spent)
+    ∙ ap (λ p. at_last (rests_in p (plain_of k) k.state k.state.next r.standing (ahead r.left r.costs more))) spent
+    ∙ ap (λ p. at_last (rests_in p (plain_of k) k.state k.state.next r.standing (ahead r.left r.costs []))) (sym spent)
     ∙ sym (r.goes_on []) ∙ ap (exec (plain_of k)) (append-nil acts)
 
 pub returns : goal.returns

@@ -11,4 +11,4 @@ unfolding StandsFor
 returns c = λ acts r.
     let k = c.args.self.now in
     let m = plain_of k in
-    sym (ap (λ (s : Stands). s.memory) (ap (exec m) (sym (append-nil acts)) ∙ r.goes_on []) ∙ rests_memory k.phase m k.state k.next r.standing r.left r.costs)
+    sym (ap (λ (s : Stands). s.memory) (ap (exec m) (sym (append-nil acts)) ∙ r.goes_on []) ∙ rests_memory k.phase m k.state k.state.next r.standing r.left r.costs)

@@ -15,12 +15,12 @@ returns c =
       (refl, λ w. refl),
       record {
         changes = tt;
-        value = λ acts r. sym (ap (λ (s : Stands). s.memory) (ap (exec m) (sym (append-nil acts)) ∙ r.goes_on []) ∙ rests_memory k.phase m k.state k.next r.standing r.left r.costs);
+        value = λ acts r. sym (ap (λ (s : Stands). s.memory) (ap (exec m) (sym (append-nil acts)) ∙ r.goes_on []) ∙ rests_memory k.phase m k.state k.state.next r.standing r.left r.costs);
         stands = λ bytes acts r. record {
           standing = r.standing;
           left = r.left;
           costs = r.costs;
-          goes_on = λ more. ap (exec m) (one_more_act acts more (host.memory bytes)) ∙ r.goes_on (host.memory bytes ∷ more) ∙ ap at_last (memory_rests k.phase m k.state k.next r.standing r.left r.costs bytes more c.requires);
+          goes_on = λ more. ap (exec m) (one_more_act acts more (host.memory bytes)) ∙ r.goes_on (host.memory bytes ∷ more) ∙ ap at_last (memory_rests k.phase m k.state k.state.next r.standing r.left r.costs bytes more c.requires);
           hosts_in = r.hosts_in;
           cells = r.cells;
         };

@@ -16,7 +16,7 @@ returns-clause-stands c = λ acts r.
       standing = r.standing;
       left = r.left;
       costs = r.costs;
-      goes_on = λ more. ap (exec m) (one_more_act acts more (host.answer c.args.answer)) ∙ r.goes_on (host.answer c.args.answer ∷ more) ∙ ap at_last (answer_rests k.phase m k.state k.next r.standing r.left r.costs c.args.answer more c.requires);
+      goes_on = λ more. ap (exec m) (one_more_act acts more (host.answer c.args.answer)) ∙ r.goes_on (host.answer c.args.answer ∷ more) ∙ ap at_last (answer_rests k.phase m k.state k.state.next r.standing r.left r.costs c.args.answer more c.requires);
       hosts_in = answer_hosts k.phase (hosts k.state.callers.items) c.requires r.hosts_in;
       cells = r.cells;
     })

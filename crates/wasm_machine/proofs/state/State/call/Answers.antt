@@ -40,9 +40,9 @@ returns-in_ok-charge-in-Some-clause-leads c = λ acts.
     let enough : n ≤ a.left = omega (arith, h.0, c.declared.ensures) in
     let left : c.args.meter.now.left - n ≡ c.charge.new.meter.left = omega (arith, h.1, c.declared.ensures) in
     let size : length c.in-Some.ty.now.params.items ≡ c.len.result = omega (arith, c.len.ensures, c.in-Some.ty.now.params.ok.0) in
-    leads_from m _ _ _ _ _
+    leads_from m c.args.next _ _ _ _ _
     (ap (λ o. moved m s c.args.next (calls_typed m c.args.func o (seen s.values) a)) some
     ∙ ap (λ mv. moved m s c.args.next mv) (paid_ok n (shared_of s.values) a k enough)
     ∙ ap (λ l. moved m s c.args.next (calls_with c.args.func (length c.in-Some.ty.now.params.items) (seen s.values) (ahead l c.args.code.now.costs.now acts))) left
     ∙ ap (λ l. moved m s c.args.next (calls_with c.args.func l (seen s.values) (ahead c.charge.new.meter.left c.args.code.now.costs.now acts))) size)
-    (c.call_with.ensures.leads (ahead c.charge.new.meter.left c.args.code.now.costs.now acts))
+    (c.call_with.ensures.leads m (ahead c.charge.new.meter.left c.args.code.now.costs.now acts))

@@ -19,7 +19,7 @@ use Rattle.wasm_machine.proofs.Blocks.{handed_value, handed_none, blocks-ends, e
 use Rattle.wasm_machine.proofs.state.State.close.Goals as goal
 
 -- a stop of `hand`, behind which the state has these shared values
-stopped : (s new : State) (frame : Frame) (l : Label) (value : Option Value) (mid after : Pile Value) (e : Stop) → span mid ≡ drop l.floor (below s.values.operands) → shared_of new.values ≡ shared_of s.values → Hands {A = Unit {0}} l.result value mid after (Err e) → (m : PlainModule) (inner : effects.State) (a : Ahead) → HasTop s value inner → Leads m (Err e) new a (closing m s frame l inner a)
+stopped : (s new : State) (frame : Frame) (l : Label) (value : Option Value) (mid after : Pile Value) (e : Stop) → span mid ≡ drop l.floor (below s.values.operands) → shared_of new.values ≡ shared_of s.values → Hands {A = Unit {0}} l.result value mid after (Err e) → (m : PlainModule) (inner : effects.State) (a : Ahead) → HasTop s value inner → Leads m frame (Err e) new a (closing m s frame l inner a)
 stopped s new frame l value mid after NoMemory outer same h m inner a top = tt
 stopped s new frame l value mid after OutOfGas outer same h m inner a top = absurd h
 stopped s new frame l value mid after (Trap kind) outer same h m inner a top =

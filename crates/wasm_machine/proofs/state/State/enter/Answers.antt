@@ -5,7 +5,7 @@ use Rattle.wasm_machine.specs.Start.{func_type}
 use Rattle.wasm_machine.specs.Piles.{all, below, span}
 use Rattle.wasm_machine.specs.Values.{shared_of}
 use Rattle.wasm_machine.specs.Rests.{through, waiting}
-use Rattle.wasm_machine.proofs.Blocks.{leads_from, through-ends}
+use Rattle.wasm_machine.proofs.Blocks.{steps_from, through-ends}
 use Rattle.wasm_machine.proofs.Calls.{entered_import, entered_code, entered_none}
 use Rattle.wasm_machine.proofs.state.State.enter.Goals as goal
 
@@ -32,7 +32,7 @@ returns-in-Some-clause-leads c = λ a.
     let s = c.args.self.now in
     let m = plain_module c.args.module.now in
     let some : func_type m c.args.func ≡ Some (plain_func_type c.in-Some.ty.now) = sym c.func_type.ensures ∙ ap (option_map (λ t. plain_func_type t.now)) c.in-Some.is in
-    leads_from m _ _ a _ _
+    steps_from m _ _ a _ _
     (ap (λ o. through m (reverse s.callers.items) (below s.values.operands) (all s.values.locals) (all s.labels) s.depth o)
     (entered_code m s.depth (length (all s.values.locals) + length (below s.values.operands)) c.args.func (plain_func_type c.in-Some.ty.now) (span s.values.operands) (shared_of s.values) a (rw c.imported-imported.ensures at c.if-func-imported.false) some))
     (rw c.imported-imported.ensures at c.begin.ensures.leads a)

@@ -24,7 +24,7 @@ returns-in_err-charge-clause-leads c = λ m acts.
     let p = err_from_is_err_and c.from_residual-in_err-charge.result c.from_residual-in_err-charge.ensures.1 in
     let old = pages_of s.values.memory in
     rw (p.1, p.2)
-    (leads_from m (Err c.in_err-charge.field-0.0) s (ahead c.charge.new.meter.left c.args.costs.now acts) _ _
+    (leads_from m c.args.next (Err c.in_err-charge.field-0.0) s (ahead c.charge.new.meter.left c.args.costs.now acts) _ _
     (ap (λ b. moved m s c.args.next (cond b (goes c.args.next.place (with_operands (seen s.values) (I32 0xFFFFFFFF ∷ own s.values.operands)) a) (paid (pages_cost c.args.costs.now c.args.pages) (shared_of s.values) a (λ b. goes c.args.next.place (with_memory (with_operands (seen s.values) (I32 old ∷ own s.values.operands)) (s.values.memory ++ zeros c.args.pages)) b))))
     (le-ltb most_pages (old + c.args.pages) (omega (arith, c.if-pages-old.false, c.pages-old.ensures.pages, c.pages-old.ensures.most))))
     (not_paid (Unit {0}) m s c.args.next (pages_cost c.args.costs.now c.args.pages) c.charge.new.meter.left a (ahead c.charge.new.meter.left c.args.costs.now acts) (λ b. goes c.args.next.place (with_memory (with_operands (seen s.values) (I32 old ∷ own s.values.operands)) (s.values.memory ++ zeros c.args.pages)) b) c.in_err-charge.field-0.0 refl (charges_same (Unit {0}) _ _ _ _ _ (ap (λ n. c.args.costs.now.grow_page * n) c.from.ensures) c.in_err-charge.ensures.left)))

@@ -20,7 +20,7 @@ loop-left-preserved c =
 pub returns-in-None-clause-leads : goal.returns-in-None-clause-leads
 returns-in-None-clause-leads c = λ m a.
     let s = c.loop-left.self in
-    leads_from m _ _ a _ _
+    leads_from m c.args.frame _ _ a _ _
     (c.loop-left.invariant.same m a
     ∙ rw (← c.in-None.ensures.below) (no_blocks m (frame_at m s.depth c.args.frame) (length (all s.values.locals)) (reverse s.callers.items) (below s.values.locals) (below c.pop.new.self) s.depth c.args.frame.result (own s.labels) (below s.values.operands) (returns (seen c.args.self.now.values) a) c.in-None.ensures.own.0))
     (c.finish.ensures.leads m (seen c.args.self.now.values) a (record { top = c.loop-left.invariant.top.top; locals = c.loop-left.invariant.top.locals; shared = c.loop-left.invariant.top.shared }))
