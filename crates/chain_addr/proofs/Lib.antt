@@ -1,3 +1,4 @@
+pub mod Addressing
 pub mod Grouping
 pub mod Closing
 pub mod Lettering

@@ -1,3 +1,5 @@
+pub mod Address
+pub mod AddressExamples
 pub mod Bech32
 pub mod Checksum
 pub mod Contract

@@ -1,4 +1,5 @@
-ghost use Rattle.std.specs.Prelude.{◌≡◌, ◌↔◌, All, IfOk, IfErr, IsTrue, Ok, string_bytes};
+ghost use Rattle.std.specs.Prelude.{◌≡◌, ◌<◌, ◌↔◌, All, IfOk, IfErr, IsTrue, Ok, string_bytes};
+ghost use Rattle.chain_addr.specs.Address.{address_of, Decodes};
 ghost use Rattle.chain_addr.specs.Bech32.{IsBech32};
 ghost use Rattle.chain_addr.specs.Letters.{IsPrefix};
 ghost use Rattle.chain_addr.specs.Reading.{ReadsAs, IsReported, IsNormal, lower};
@@ -30,14 +31,23 @@ pub fn decode(alloc: Global, prefix: &str, text: &str) -> Result<Vec<u8>, AddrFa
     requires { IsPrefix prefix.now }
     ensures ok { IfOk result (λ bytes. ReadsAs prefix.now text.now (Ok bytes.items)) }
     ensures bad { IfErr result (λ fault. IsReported prefix.now text.now fault) }
+    ensures address { Decodes result (address_of prefix.now text.now) }
 {
     let mut buffer = [0; MOST_BYTES];
     match read(prefix.as_bytes(), text.as_bytes(), &mut buffer) {
-        Ok(count) => match buffer[..count].to_vec(alloc) {
-            Ok(bytes) => Ok(bytes),
-            Err(_) => Err(AddrFault::NoMemory),
-        },
+        Ok(count) => owned(alloc, &buffer[..count]),
         Err(Misread { kind, at }) => Err(AddrFault::Bad { kind, at }),
+    }
+}
+
+fn owned(alloc: Global, bytes: &[u8]) -> Result<Vec<u8>, AddrFault>
+    ensures ok { IfOk result (λ copy. copy.items ≡ bytes.now) }
+    ensures bytes { All (λ b. b < 256) bytes.now }
+    ensures err { IfErr result (λ fault. fault ≡ AddrFault.NoMemory) }
+{
+    match bytes.to_vec(alloc) {
+        Ok(copy) => Ok(copy),
+        Err(_) => Err(AddrFault::NoMemory),
     }
 }
 
