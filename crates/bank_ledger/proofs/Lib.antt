@@ -13,3 +13,4 @@ pub mod NextCoin
 pub mod Holding
 pub mod Room
 pub mod Opening
+pub mod Mints

@@ -19,13 +19,14 @@ use Rattle.bank_ledger.specs.Lawful.{IsAddress, HasLawfulAmounts}
 use Rattle.kv_layers.specs.declared.layers.Layers.{Layers}
 use Rattle.kv_layers.specs.Layers.{HasCurrent}
 use Rattle.bank_ledger.specs.Spelled.{OfSome, OfEach}
+use Rattle.bank_ledger.specs.Minted.{minted}
 use Rattle.bank_ledger.specs.Steps.{amount_under, with_more, Writes}
 use Rattle.bank_ledger.proofs.Writing.{Writes-trans, OfSome-written, OfSome-only}
 use Rattle.bank_ledger.proofs.Orders.{equal_of}
 use Rattle.bank_ledger.proofs.Changed.{balance_below, total_more, accounts_with_amount, supplies_with_amount, supply_more}
 
-abbrev pub opening : PlainFacts → Counters → State
-opening f c = record { facts = f; counters = c; balances = empty; supplies = empty; codes = empty; pins = empty; contracts = empty; storage = empty }
+abbrev pub empty_state : PlainFacts → Counters → State
+empty_state f c = record { facts = f; counters = c; balances = empty; supplies = empty; codes = empty; pins = empty; contracts = empty; storage = empty }
 
 abbrev place_of_facts : List ℕ
 place_of_facts = 0 ∷ []
@@ -59,7 +60,7 @@ module _ (f : PlainFacts) (c : Counters) (is_facts : IsRecord (facts f)) (is_cou
   some_is : (a b : PlainStored) → IsRecord a → (let x : Option PlainStored = Some a in x) ≡ Some b → IsRecord b
   some_is a b is e = let same : a ≡ b = cc in subst IsRecord same is
 
-  well_formed : (key : PlainKey) (stored : PlainStored) → entry_of (opening f c) key ≡ Some stored → IsKey key × IsRecord stored
+  well_formed : (key : PlainKey) (stored : PlainStored) → entry_of (empty_state f c) key ≡ Some stored → IsKey key × IsRecord stored
   unfolding entry_of
   well_formed keys.facts stored e = (tt, some_is (facts f) stored is_facts e)
   well_formed keys.counters stored e = (tt, some_is (counters c) stored is_counters e)
@@ -71,7 +72,7 @@ module _ (f : PlainFacts) (c : Counters) (is_facts : IsRecord (facts f)) (is_cou
   well_formed (keys.contract a) stored e = absurd (nothing_some _ _ stored (get-empty (slice_cmp nat_cmp) a) e)
   well_formed (keys.storage a k) stored e = absurd (nothing_some _ _ stored (get-empty addressed_cmp (a, k)) e)
 
-  same : (key : PlainKey) → IsKey key → get bytes_of_both (key_bytes key) ≡ option_map stored_bytes (entry_of (opening f c) key)
+  same : (key : PlainKey) → IsKey key → get bytes_of_both (key_bytes key) ≡ option_map stored_bytes (entry_of (empty_state f c) key)
   unfolding entry_of key_bytes bytes_of_both
   same keys.facts is = found_in _ _ (0 ∷ [])
   same keys.counters is = found_in _ _ (7 ∷ [])
@@ -92,13 +93,13 @@ module _ (f : PlainFacts) (c : Counters) (is_facts : IsRecord (facts f)) (is_cou
       go false p true q r = (keys.facts, record { is_key = tt; same = sym (exact_bytes bytes place_of_facts (equal_of _ q)) })
       go false p false q r = absurd cc
 
-  opening_spelled : Spells bytes_of_both (opening f c)
+  opening_spelled : Spells bytes_of_both (empty_state f c)
   opening_spelled = record { well_formed = well_formed; same = same; only = only }
 
-  pub spelled_opening : (kf vf kc vc : List ℕ) → IsKeyOf kf keys.facts → IsRecordOf vf (facts f) → IsKeyOf kc keys.counters → IsRecordOf vc (counters c) → Spells (insert (insert empty kf vf) kc vc) (opening f c)
+  pub spelled_opening : (kf vf kc vc : List ℕ) → IsKeyOf kf keys.facts → IsRecordOf vf (facts f) → IsKeyOf kc keys.counters → IsRecordOf vc (counters c) → Spells (insert (insert empty kf vf) kc vc) (empty_state f c)
   unfolding key_bytes bytes_of_both
   spelled_opening kf vf kc vc is_kf is_vf is_kc is_vc =
-      subst (λ (m : Bytes). Spells m (opening f c)) (λ i. insert (insert empty (is_kf.same i) (is_vf.same i)) (is_kc.same i) (is_vc.same i)) opening_spelled
+      subst (λ (m : Bytes). Spells m (empty_state f c)) (λ i. insert (insert empty (is_kf.same i) (is_vf.same i)) (is_kc.same i) (is_vc.same i)) opening_spelled
 
 no_entries : entries (empty {X = ℕ} {R = addressed_cmp}) ≡ []
 no_entries = nil_from_length _ (sym (len-entries _) ∙ len-empty addressed_cmp ℕ)
@@ -106,7 +107,7 @@ no_entries = nil_from_length _ (sym (len-entries _) ∙ len-empty addressed_cmp 
 none_of : (m : Option ℕ) → m ≡ None → unwrap_or m 0 ≡ 0
 none_of m e = ap (λ (o : Option ℕ). unwrap_or o 0) e
 
-pub opening_lawful : (f : PlainFacts) (c : Counters) → HasLawfulAmounts (opening f c)
+pub opening_lawful : (f : PlainFacts) (c : Counters) → HasLawfulAmounts (empty_state f c)
 opening_lawful f c = record {
   sums = λ denom. none_of _ (get-empty (slice_cmp nat_cmp) denom) ∙ sym (ap (sum_by (counted denom)) no_entries);
   bounded = λ denom. omega (arith, none_of _ (get-empty (slice_cmp nat_cmp) denom));
@@ -116,19 +117,16 @@ opening_lawful f c = record {
 
 -- ---- an amount that is minted
 
-abbrev pub minted : State → List ℕ → List ℕ → ℕ → State
-minted s addr denom n = with_more (with_more s (keys.balance addr denom) n) (keys.supply denom) n
+still_bounded : (b : Bool) (n here there : ℕ) → (b ≡ true → here ≡ there) → here + n < 2 ^ 128 → there < 2 ^ 128 → there + cond b n 0 < 2 ^ 128
+still_bounded true n here there same room bound = let e = same refl in omega arith
+still_bounded false n here there same room bound = omega arith
 
-still_bounded : (b : Bool) (n here there : ℕ) → (b ≡ true → here ≡ there) → here ≤ 1000 → n ≤ 1000 → there < 2 ^ 128 → there + cond b n 0 < 2 ^ 128
-still_bounded true n here there same small few bound = let e = same refl in omega arith
-still_bounded false n here there same small few bound = omega arith
-
-pub minted_lawful : (s : State) (addr denom : List ℕ) (n : ℕ) → IsAddress addr → IsDenom denom → n ≤ 1000 → supply s denom ≤ 1000 → HasLawfulAmounts s → HasLawfulAmounts (minted s addr denom n)
-minted_lawful s addr denom n is_address is_denom few small lawful =
+pub minted_lawful : (s : State) (addr denom : List ℕ) (n : ℕ) → IsAddress addr → IsDenom denom → supply s denom + n < 2 ^ 128 → HasLawfulAmounts s → HasLawfulAmounts (minted s addr denom n)
+minted_lawful s addr denom n is_address is_denom room lawful =
     let paid = with_more s (keys.balance addr denom) n in
     record {
       sums = λ e. supply_more paid denom n e ∙ ap (λ x. x + cond (bytes_eq denom e) n 0) (lawful.sums e) ∙ sym (total_more s addr denom n e);
-      bounded = λ e. subst (λ (x : ℕ). x < 2 ^ 128) (sym (supply_more paid denom n e)) (still_bounded (bytes_eq denom e) n (supply s denom) (supply s e) (λ q. ap (supply s) ((bytes_eq-Decides denom e).0 q)) small few (lawful.bounded e));
+      bounded = λ e. subst (λ (x : ℕ). x < 2 ^ 128) (sym (supply_more paid denom n e)) (still_bounded (bytes_eq denom e) n (supply s denom) (supply s e) (λ q. ap (supply s) ((bytes_eq-Decides denom e).0 q)) room (lawful.bounded e));
       accounts = accounts_with_amount s addr denom _ is_denom is_address lawful.accounts;
       supplies = supplies_with_amount paid denom _ is_denom lawful.supplies;
     }
@@ -140,6 +138,9 @@ balance_room s addr denom n few small lawful = let below = balance_below s addr 
 
 abbrev pub HasSmall : List ℕ → State → Type 0
 HasSmall denom s = HasLawfulAmounts s × (supply s denom ≤ 1000)
+
+fits : (x m : ℕ) → x ≤ 1000 → m ≤ 1000 → x + m < 2 ^ 128
+fits x m small few = omega arith
 
 module _ {B : Type 0} (S : B → Bytes → Type 0) where
   pub some_small : (a : Layers B) (denom : List ℕ) (n : ℕ) → n ≤ 1000 → OfEach (HasCurrent S a) (λ s. n ≡ supply s denom) → OfSome (HasCurrent S a) HasLawfulAmounts → OfSome (HasCurrent S a) (HasSmall denom)
@@ -169,6 +170,6 @@ module _ {B : Type 0} (S : B → Bytes → Type 0) where
   pub has_minted : (a b c : Layers B) (account supplied : PlainKey) (addr denom : List ℕ) (n : ℕ) → account ≡ keys.balance addr denom → supplied ≡ keys.supply denom → IsAddress addr → IsDenom denom → n ≤ 1000 → Writes S a b (λ s. with_more s account n)
       → Writes S b c (λ s. with_more s supplied n) → OfSome (HasCurrent S a) (HasSmall denom) → OfSome (HasCurrent S c) HasLawfulAmounts
   has_minted a b c account supplied addr denom n is_account is_supplied is_address is_denom few first then some =
-      OfSome-written S a c (λ s. minted s addr denom n) (HasSmall denom) HasLawfulAmounts (λ s small. minted_lawful s addr denom n is_address is_denom few small.1 small.0)
+      OfSome-written S a c (λ s. minted s addr denom n) (HasSmall denom) HasLawfulAmounts (λ s small. minted_lawful s addr denom n is_address is_denom (fits (supply s denom) n small.1 few) small.0)
       (Writes-trans S a b c (λ s. with_more s (keys.balance addr denom) n) (λ s. with_more s (keys.supply denom) n)
       (subst (λ (k : PlainKey). Writes S a b (λ s. with_more s k n)) is_account first) (subst (λ (k : PlainKey). Writes S b c (λ s. with_more s k n)) is_supplied then)) some

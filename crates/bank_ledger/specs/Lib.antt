@@ -4,4 +4,5 @@ pub mod Lawful
 pub mod Spelled
 pub mod Effects
 pub mod Steps
+pub mod Minted
 pub mod Examples

@@ -5,6 +5,7 @@ mod amounts;
 mod burns;
 mod holdings;
 mod keys;
+mod minting;
 mod readers;
 mod sends;
 mod shortfall;
@@ -14,6 +15,7 @@ mod tests;
 
 pub use burns::burn;
 pub use holdings::all_balances;
+pub use minting::{mint, opened};
 pub use readers::{balance, supply};
 pub use sends::send;
 pub use stop::BankStop;
