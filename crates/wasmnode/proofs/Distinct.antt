@@ -1,9 +1,19 @@
 -- Addresses met one by one are distinct where none is met again.
-use Rattle.std.proofs.Common.{◌≡◌, ℕ, ◌+◌, ◌<◌, Bool, true, false, cond, not, ◌||◌, ◌&&◌, List, [], ◌∷◌, ◌++◌, length, map, take, drop, get_or, refl, sym, ap, ◌∙◌, bytes_eq, string_bytes}
+use Rattle.std.proofs.Common.{◌≡◌, ℕ, ◌+◌, ◌<◌, Bool, true, false, cond, not, ◌||◌, ◌&&◌, List, [], ◌∷◌, ◌++◌, length, map, take, drop, get_or, refl, sym, ap, ◌∙◌, bytes_eq}
 use Rattle.std.proofs.lemmas.List.{take_more, drop_more}
 use Rattle.std.proofs.lemmas.List.Folds.{list_any-append}
+use Rattle.std.proofs.lemmas.Map.Text.{is_eq-slice_cmp}
+use Rattle.std.proofs.lemmas.Slice.Eq.{bytes_eq-Decides}
+use Rattle.std.specs.declared.cmp.Ordering.{Ordering}
+use Rattle.std.specs.BTreeSet.{BTreeSet, UpdatesBy, contains_by}
+use Rattle.std.specs.Cmp.{eq_by_cmp_equiv}
+use Rattle.std.specs.Cmp.Lexicographic.{slice_cmp, nat_list_cmp_total}
+use Rattle.std.specs.Global.{Vec}
 use Rattle.std.specs.List.{list_all, list_any}
-use Rattle.wasmnode.specs.declared.ledger.Account as account_type
+use Rattle.std.specs.Map.{IsKeyTest, AreApart}
+use Rattle.std.specs.Ordering.{nat_cmp, is_eq}
+use Rattle.std.specs.Set.{KeepsOthers}
+use Rattle.wasmnode.specs.declared.account.Account as account_type
 use Rattle.wasmnode.specs.Opening.{are_unlike, addresses_of}
 use Rattle.wasmnode.specs.Views.{account_view}
 
@@ -54,15 +64,15 @@ unmet_none (x ∷ left) = unmet_none left
 pub new_all : (left : List (List ℕ)) → are_new [] left ≡ are_unlike left
 new_all left = new_is [] left ∙ ap (λ u. u && are_unlike left) (unmet_none left)
 
-names_push : (accounts : List account_type.Account) (a : account_type.Account) → names (accounts ++ a ∷ []) ≡ names accounts ++ string_bytes a.address ∷ []
+names_push : (accounts : List account_type.Account) (a : account_type.Account) → names (accounts ++ a ∷ []) ≡ names accounts ++ a.address.bytes.items ∷ []
 names_push [] a = refl
-names_push (b ∷ accounts) a = ap (λ l. string_bytes b.address ∷ l) (names_push accounts a)
+names_push (b ∷ accounts) a = ap (λ l. b.address.bytes.items ∷ l) (names_push accounts a)
 
-names_more : (all : List account_type.Account) (i : ℕ) (a : account_type.Account) → i < length all → a ≡ get_or all i a → names (take (i + 1) all) ≡ names (take i all) ++ string_bytes a.address ∷ []
+names_more : (all : List account_type.Account) (i : ℕ) (a : account_type.Account) → i < length all → a ≡ get_or all i a → names (take (i + 1) all) ≡ names (take i all) ++ a.address.bytes.items ∷ []
 names_more all i a within is =
     ap names (take_more all i a within ∙ ap (λ x. take i all ++ x ∷ []) (sym is)) ∙ names_push (take i all) a
 
-names_left : (all : List account_type.Account) (i : ℕ) (a : account_type.Account) → i < length all → a ≡ get_or all i a → names (drop i all) ≡ string_bytes a.address ∷ names (drop (i + 1) all)
+names_left : (all : List account_type.Account) (i : ℕ) (a : account_type.Account) → i < length all → a ≡ get_or all i a → names (drop i all) ≡ a.address.bytes.items ∷ names (drop (i + 1) all)
 names_left all i a within is = ap names (drop_more all i a within ∙ ap (λ x. x ∷ drop (i + 1) all) (sym is))
 
 or_cond : (b c : Bool) → cond b true c ≡ (c || (b || false))
@@ -72,22 +82,52 @@ or_cond false true = refl
 or_cond false false = refl
 
 pub met_more : (all : List account_type.Account) (i : ℕ) (a : account_type.Account) → i < length all → a ≡ get_or all i a → (address : List ℕ)
-    → cond (bytes_eq (string_bytes a.address) address) true (is_met (names (take i all)) address) ≡ is_met (names (take (i + 1) all)) address
+    → cond (bytes_eq (a.address.bytes.items) address) true (is_met (names (take i all)) address) ≡ is_met (names (take (i + 1) all)) address
 met_more all i a within is address =
-    or_cond (bytes_eq (string_bytes a.address) address) (is_met (names (take i all)) address)
-    ∙ sym (list_any-append (λ other. bytes_eq other address) (names (take i all)) (string_bytes a.address ∷ []))
+    or_cond (bytes_eq (a.address.bytes.items) address) (is_met (names (take i all)) address)
+    ∙ sym (list_any-append (λ other. bytes_eq other address) (names (take i all)) (a.address.bytes.items ∷ []))
     ∙ ap (λ l. is_met l address) (sym (names_more all i a within is))
 
 new_first : (before : List (List ℕ)) (a : List ℕ) (left : List (List ℕ)) → is_met before a ≡ false → are_new before (a ∷ left) ≡ are_new (before ++ a ∷ []) left
 new_first before a left new = rw new refl
 
-pub new_step : (all : List account_type.Account) (i : ℕ) (a : account_type.Account) → i < length all → a ≡ get_or all i a → is_met (names (take i all)) (string_bytes a.address) ≡ false
+pub new_step : (all : List account_type.Account) (i : ℕ) (a : account_type.Account) → i < length all → a ≡ get_or all i a → is_met (names (take i all)) (a.address.bytes.items) ≡ false
     → are_new (names (take (i + 1) all)) (names (drop (i + 1) all)) ≡ are_new (names (take i all)) (names (drop i all))
 new_step all i a within is new =
     ap (λ x. are_new x (names (drop (i + 1) all))) (names_more all i a within is)
-    ∙ sym (new_first (names (take i all)) (string_bytes a.address) (names (drop (i + 1) all)) new)
+    ∙ sym (new_first (names (take i all)) (a.address.bytes.items) (names (drop (i + 1) all)) new)
     ∙ ap (are_new (names (take i all))) (sym (names_left all i a within is))
 
 pub not_true : (b c : Bool) → b ≡ not c → b ≡ true → c ≡ false
 not_true b true is added = cc
 not_true b false is added = refl
+
+-- ---- a set of addresses
+
+abbrev pub vec_cmp : Vec ℕ → Vec ℕ → Ordering
+vec_cmp a b = slice_cmp nat_cmp a.items b.items
+
+-- whether the set has these bytes
+abbrev pub has_bytes : BTreeSet (Vec ℕ) → List ℕ → Bool
+has_bytes set bytes = contains_by (λ k. slice_cmp nat_cmp bytes k.items) set
+
+others_stay : (eq : Vec ℕ → Vec ℕ → Bool) (test : Vec ℕ → Bool) (old new : List (Vec ℕ)) → KeepsOthers eq test old new → (other : Vec ℕ → Bool) → IsKeyTest eq other → AreApart test other → list_any other new ≡ list_any other old
+unfolding KeepsOthers
+others_stay eq test old new h = h
+
+apart : (bs cs : List ℕ) → bytes_eq bs cs ≡ false → (k : Vec ℕ) → is_eq (slice_cmp nat_cmp bs k.items) ≡ true → is_eq (slice_cmp nat_cmp cs k.items) ≡ false
+apart bs cs differs k same = is_eq-slice_cmp cs k.items ∙ go (bytes_eq cs k.items) refl
+  where
+    go : (b : Bool) → bytes_eq cs k.items ≡ b → b ≡ false
+    go true e =
+        let one : bs ≡ k.items = (bytes_eq-Decides bs k.items).0 (sym (is_eq-slice_cmp bs k.items) ∙ same) in
+        let two : cs ≡ k.items = (bytes_eq-Decides cs k.items).0 e in
+        sym ((bytes_eq-Decides bs cs).1 (one ∙ sym two)) ∙ differs
+    go false e = refl
+
+pub set_changed : (set new : BTreeSet (Vec ℕ)) (bs : List ℕ) (b : Bool) → UpdatesBy vec_cmp (λ k. slice_cmp nat_cmp bs k.items) set new b → (cs : List ℕ) → has_bytes new cs ≡ cond (bytes_eq bs cs) b (has_bytes set cs)
+set_changed set new bs b h cs = go (bytes_eq bs cs) refl
+  where
+    go : (same : Bool) → bytes_eq bs cs ≡ same → has_bytes new cs ≡ cond same b (has_bytes set cs)
+    go true e = ap (has_bytes new) (sym ((bytes_eq-Decides bs cs).0 e)) ∙ h.1
+    go false e = others_stay _ _ _ _ h.3 _ (λ x y. (eq_by_cmp_equiv nat_list_cmp_total).congr cs x.items y.items) (apart bs cs e)

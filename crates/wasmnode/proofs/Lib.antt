@@ -1,11 +1,12 @@
-pub mod Amounts
 mod Bridge
 pub mod Checked
 pub mod Delivering
+pub mod Denoms
 pub mod Distinct
 mod Goings
+pub mod Minting
 pub mod Openings
 pub mod Parts
-pub mod Paying
+mod Standings
 mod Stopping
 pub mod Supplies

@@ -9,7 +9,7 @@ use Rattle.line_protocol.specs.declared.line.ParseStop.{ParseStop}
 use Rattle.line_protocol.specs.declared.line.ParseStop.TheVariants.{Bad, NoMemory}
 use Rattle.coin_amounts.specs.Plain.{Coin}
 use Rattle.wasmnode.specs.Opening.{Account, supply_of, fits}
-use Rattle.wasmnode.specs.Bank.{share, amount_in}
+use Rattle.bank_ledger.specs.Balances.{share, amount_in}
 use Rattle.wasmnode.specs.Stops.{IsMintRefusal, IsCreditRefusal}
 
 pub credit_stop : (stop : ParseStop) (supply : ℕ) (fits : Bool) → IsMintRefusal stop supply → (2 ^ 128 ≤ supply → fits ≡ false) → IsCreditRefusal stop fits

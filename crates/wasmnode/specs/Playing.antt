@@ -35,8 +35,8 @@ script chain (entry ∷ entries) = entry_text chain entry ++ script (entry_chain
 abbrev pub reading_left : Lines → Option (List ℕ) → Option Reading
 reading_left lines left = option_map (λ bytes. reading_from (number lines + 1) (size lines) (raws_of bytes)) (waiting lines left)
 
-abbrev pub rest_left : Lines → Option (List ℕ) → Option Rest
-rest_left lines left = option_map (λ bytes. rest_of (number lines + 1) (size lines) (raws_of bytes)) (waiting lines left)
+abbrev pub rest_left : List ℕ → Lines → Option (List ℕ) → Option Rest
+rest_left prefix lines left = option_map (λ bytes. rest_of prefix (number lines + 1) (size lines) (raws_of bytes)) (waiting lines left)
 
 -- as many lines were handed out as bytes at most, and of those no more than an input may have
 abbrev pub IsCounted : Lines → Type 0

@@ -1,12 +1,12 @@
--- Why a ledger refuses coins: a supply doesn't fit 128 bits, or there is no memory.
-use Rattle.std.specs.Prelude.{◌≡◌, ℕ, ◌^◌, ◌<◌, ◌≤◌, Bool, false, List, Option, None, Some, Result, Ok, Err, ⊤}
+-- Why no records are made of accounts: a supply doesn't fit 128 bits, or there is no memory.
+use Rattle.std.specs.Prelude.{◌≡◌, ℕ, ◌^◌, ◌<◌, ◌≤◌, Bool, false, Option, None, Some, Result, Ok, Err, string_bytes, ⊤}
 use Rattle.line_protocol.specs.declared.kind.BadKind.TheVariants.{Form}
 use Rattle.line_protocol.specs.declared.line.ParseStop.{ParseStop}
 use Rattle.line_protocol.specs.declared.line.ParseStop.TheVariants.{Bad, NoMemory}
 use Rattle.line_protocol.specs.Reads.{IsStopOf}
-use Rattle.wasmnode.specs.declared.ledger.Ledger.{Ledger}
-use Rattle.wasmnode.specs.Ledger.{balances}
-use Rattle.wasmnode.specs.Opening.{Opening, balances_of}
+use Rattle.wasmnode.specs.declared.opening.Opened.{Opened}
+use Rattle.wasmnode.specs.Holding.{Records}
+use Rattle.wasmnode.specs.Opening.{Opening, balances_of, supply_of, facts_of}
 
 -- what a supply that an amount would make says of a refusal
 abbrev pub IsMintRefusal : ParseStop → ℕ → Type 0
@@ -26,11 +26,13 @@ abbrev pub IsCreditStop : {A : Type 0} → Result A ParseStop → Bool → Type 
 IsCreditStop (Ok x) fits = ⊤
 IsCreditStop (Err stop) fits = IsCreditRefusal stop fits
 
--- what a genesis that opens a chain, or doesn't, says of the ledger that was made of it
-abbrev pub IsOpened : Ledger → Option Opening → Type 0
-IsOpened ledger None = ⊥
-IsOpened ledger (Some opening) = (address denom : List ℕ) → balances ledger address denom ≡ balances_of opening.accounts address denom
+-- what a genesis that opens a chain, or doesn't, says of the records that were made of it
+abbrev pub IsOpened : Opened → Option Opening → Type 0
+IsOpened opened None = ⊥
+IsOpened opened (Some opening) =
+    (string_bytes opened.prefix.text ≡ opening.chain.prefix)
+    × Records (facts_of opening.chain opening.authority) (balances_of opening.accounts) (supply_of opening.accounts) opened.records
 
-abbrev pub Opens : Result Ledger ParseStop → Option Opening → Type 0
-Opens (Ok ledger) opening = IsOpened ledger opening
+abbrev pub Opens : Result Opened ParseStop → Option Opening → Type 0
+Opens (Ok opened) opening = IsOpened opened opening
 Opens (Err stop) opening = IsStopOf stop opening

@@ -1,34 +1,37 @@
-ghost use Rattle.std.specs.Prelude.{◌≡◌, ◌+◌, ◌<◌, ◌^◌, map, option_map, OnOk, IfOk};
+ghost use Rattle.std.specs.Prelude.{◌≡◌, ◌+◌, ◌<◌, ◌≤◌, ◌^◌, map, option_map, OnOk, IfOk};
 ghost use Rattle.serde_json.specs.View.{view};
-ghost use Rattle.chain_msgs.specs.Plain.{result_view};
-ghost use Rattle.chain_msgs.specs.Plain.{genesis_view};
+ghost use Rattle.chain_msgs.specs.Plain.{result_view, genesis_view};
 ghost use Rattle.line_protocol.specs.Plain.{query_result_view, reply_view};
-ghost use Rattle.line_protocol.specs.Reads.{Reads};
+ghost use Rattle.gas_meter.specs.Costs.{standard_schedule};
+ghost use Rattle.bank_ledger.specs.Balances.{Balances};
 ghost use Rattle.wasmnode.specs.Chain.{balance_data, balance_result, reply_of, answer_line, block_line, chain_start, chain_next, results_of, balances_after};
-ghost use Rattle.wasmnode.specs.Ledger.{balances};
+ghost use Rattle.wasmnode.specs.Holding.{Holds};
 ghost use Rattle.wasmnode.specs.Opening.{opening_of};
 ghost use Rattle.wasmnode.specs.Playing.{entry_text, entry_chain};
-ghost use Rattle.wasmnode.specs.Views.{chain_view, send_view, ask_view, entry_view};
+ghost use Rattle.wasmnode.specs.Standing.{StandsFor, IsChain, OfChain, OpensAs};
+ghost use Rattle.wasmnode.specs.Views.{send_view, ask_view, entry_view};
 
+use crate::address::Prefix;
 use crate::deliver::deliver;
 use crate::entry::Entry;
-use crate::ledger::Ledger;
-use crate::opening::open;
+use crate::opening::{Opened, open};
 use crate::sends::{Ask, Send};
+use bank_ledger::balance;
 use chain_msgs::{Answer, Genesis, TxResult};
+use gas_meter::{Meter, Schedule};
+use kv_layers::{Layers, Plain};
 use line_protocol::{ParseStop, QueryReply, QueryResult, block_text, query_text};
 use serde_json::{Value, json};
 use std::alloc::{AllocError, Global};
 
-/// The gas of a query for a balance.
-const QUERY_GAS: u64 = 1000;
-
 /// The chain at its newest height.
 #[derive(Drop)]
 pub struct Chain {
+    pub(crate) prefix: Prefix,
     /// The gas that a query has.
     query_limit: u64,
-    ledger: Ledger,
+    costs: Schedule,
+    records: Layers<Plain>,
     height: u64,
     /// The digest of the newest block.
     digest: [u8; 32],
@@ -36,18 +39,21 @@ pub struct Chain {
 
 /// Does the transactions in order, and says what each did.
 fn deliver_all(
-    ledger: &mut Ledger,
+    records: &mut Layers<Plain>,
     alloc: Global,
+    costs: &Schedule,
     sends: &[Send],
 ) -> Result<Vec<TxResult>, AllocError>
-    ensures results { IfOk result (λ results. map result_view results.items
-        ≡ results_of (balances ledger.old) (map send_view sends.now)) }
-    ensures balances { OnOk result (balances ledger.new
-        ≡ balances_after (balances ledger.old) (map send_view sends.now)) }
+    requires held { (b : Balances) × Holds records.old b }
+    requires costs { costs.now ≡ standard_schedule }
+    ensures results { IfOk result (λ results. (b : Balances) → Holds records.old b
+        → map result_view results.items ≡ results_of b (map send_view sends.now)) }
+    ensures held { OnOk result ((b : Balances) → Holds records.old b
+        → Holds records.new (balances_after b (map send_view sends.now))) }
 {
     let mut results = Vec::with_capacity(alloc, sends.len())?;
     for send in sends {
-        results.push(deliver(ledger, alloc, send)?)?;
+        results.push(deliver(records, alloc, costs, send)?)?;
     }
     Ok(results)
 }
@@ -63,26 +69,32 @@ fn balance_value(alloc: Global, denom: &str, amount: u128) -> Result<Value, Allo
 impl Chain {
     /// The chain that a genesis opens.
     pub fn open(alloc: Global, genesis: &Genesis) -> Result<Chain, ParseStop>
-        ensures { Reads chain_view result
+        ensures opens { OpensAs result
             (option_map chain_start (opening_of (genesis_view genesis.now))) }
+        ensures low { IfOk result (λ chain. chain.height ≡ 0) }
     {
+        let Opened { prefix, records } = open(alloc, genesis)?;
         Ok(Chain {
+            prefix,
             query_limit: genesis.query_gas,
-            ledger: open(alloc, genesis)?,
+            costs: Schedule::standard(),
+            records: Layers::new(alloc, records),
             height: 0,
             digest: [0; 32],
         })
     }
 
-    /// Delivers a block, and gives its line.
+    /// Delivers a block, and gives its line. After an `Err` the chain has no use but to be dropped.
     pub fn deliver_block(&mut self, alloc: Global, sends: &[Send]) -> Result<Vec<u8>, AllocError>
-        requires { self.old.height + 1 < 2 ^ 64 }
-        ensures text { IfOk result (λ text. text.items
-            ≡ block_line (chain_view self.old) (map send_view sends.now)) }
-        ensures next { OnOk result (chain_view self.new
-            ≡ chain_next (chain_view self.old) (map send_view sends.now)) }
+        requires low { self.old.height + 1 < 2 ^ 64 }
+        requires stands { IsChain self.old }
+        ensures text { IfOk result (λ text. OfChain self.old (λ c. text.items
+            ≡ block_line c (map send_view sends.now))) }
+        ensures next { OnOk result (OfChain self.old (λ c. StandsFor self.new
+            (chain_next c (map send_view sends.now)))) }
+        ensures height { OnOk result (self.new.height ≡ self.old.height + 1) }
     {
-        let results = deliver_all(&mut self.ledger, alloc, sends)?;
+        let results = deliver_all(&mut self.records, alloc, &self.costs, sends)?;
         let height = self.height + 1;
         let (text, digest) = block_text(alloc, height, &results, &self.digest)?;
         self.height = height;
@@ -92,50 +104,55 @@ impl Chain {
 
     /// What a query for a balance finds at the newest height.
     fn balance_result(&self, alloc: Global, ask: &Ask) -> Result<QueryResult, AllocError>
-        ensures { IfOk result (λ found. query_result_view found
-            ≡ balance_result (chain_view self.now) (ask_view ask.now)) }
+        requires { IsChain self.now }
+        ensures { IfOk result (λ found. OfChain self.now (λ c. query_result_view found
+            ≡ balance_result c (ask_view ask.now))) }
     {
         let denom = ask.denom.as_str();
-        let amount = self.ledger.balance(ask.address.as_str(), denom);
+        let amount = balance(alloc, &self.records, &ask.address.bytes, denom)?;
         let value = balance_value(alloc, denom, amount)?;
         Ok(QueryResult::Answer(Answer::Ok(value.to_vec(alloc)?)))
     }
 
     /// The reply to a query at the newest height.
     fn reply(&self, alloc: Global, ask: &Ask) -> Result<QueryReply, AllocError>
-        ensures { IfOk result (λ reply. reply_view reply
-            ≡ reply_of (chain_view self.now) (ask_view ask.now) self.now.height) }
+        requires { IsChain self.now }
+        ensures { IfOk result (λ reply. OfChain self.now (λ c. reply_view reply
+            ≡ reply_of c (ask_view ask.now) c.height)) }
     {
-        let (gas, result) = if self.query_limit < QUERY_GAS {
-            (self.query_limit, QueryResult::OutOfGas)
-        } else {
-            (QUERY_GAS, self.balance_result(alloc, ask)?)
+        let mut meter = Meter::new(self.query_limit);
+        let result = match meter.charge(self.costs.query) {
+            Ok(()) => self.balance_result(alloc, ask)?,
+            Err(_) => QueryResult::OutOfGas,
         };
         Ok(QueryReply {
             line: 0,
             client: ask.client,
             n: self.height,
             height: self.height,
-            gas,
+            gas: meter.used(),
             result,
         })
     }
 
     /// The line that answers a query at the newest height.
     pub fn answer(&self, alloc: Global, ask: &Ask) -> Result<Vec<u8>, AllocError>
-        ensures { IfOk result (λ text. text.items
-            ≡ answer_line (chain_view self.now) (ask_view ask.now) self.now.height) }
+        requires { IsChain self.now }
+        ensures { IfOk result (λ text. OfChain self.now (λ c. text.items
+            ≡ answer_line c (ask_view ask.now) c.height)) }
     {
         query_text(alloc, &self.reply(alloc, ask)?)
     }
 
     /// Delivers a block or answers a query, and gives its line.
     pub(crate) fn process(&mut self, alloc: Global, entry: &Entry) -> Result<Vec<u8>, AllocError>
-        requires { self.old.height + 1 < 2 ^ 64 }
-        ensures text { IfOk result (λ text. text.items
-            ≡ entry_text (chain_view self.old) (entry_view entry.now)) }
-        ensures next { OnOk result (chain_view self.new
-            ≡ entry_chain (chain_view self.old) (entry_view entry.now)) }
+        requires low { self.old.height + 1 < 2 ^ 64 }
+        requires stands { IsChain self.old }
+        ensures text { IfOk result (λ text. OfChain self.old (λ c. text.items
+            ≡ entry_text c (entry_view entry.now))) }
+        ensures next { OnOk result (OfChain self.old (λ c. StandsFor self.new
+            (entry_chain c (entry_view entry.now)))) }
+        ensures low { OnOk result (self.new.height ≤ self.old.height + 1) }
     {
         match entry {
             Entry::Block(sends) => self.deliver_block(alloc, sends),

@@ -1,31 +1,54 @@
-ghost use Rattle.std.specs.Prelude.{◌≡◌, ◌+◌, ◌*◌, ◌<◌, ◌^◌, ℕ, List, length, OnOk, IfOk, string_bytes};
-ghost use Rattle.chain_msgs.specs.Plain.{event_view, result_view, failure_view};
+ghost use Rattle.std.specs.Prelude.{◌≡◌, ◌+◌, ◌*◌, ◌<◌, ◌≤◌, ◌^◌, ℕ, List, length, OnOk, OnErr, IfOk, string_bytes};
+ghost use Rattle.chain_msgs.specs.Plain.{event_view, result_view, failure_view, attribute_view};
+ghost use Rattle.coin_amounts.specs.Coins.{coins_view};
+ghost use Rattle.gas_meter.specs.Costs.{standard_schedule, coins_cost};
+ghost use Rattle.gas_meter.specs.Gas.{spent, exhausted};
+ghost use Rattle.bank_ledger.specs.Balances.{Balances, Shortfall};
 ghost use Rattle.wasmnode.specs.Chain.{send_cost, transfer, failed, out_of_gas_failure, not_enough_failure, succeeded, delivered, attribute};
-ghost use Rattle.chain_msgs.specs.Plain.{attribute_view};
-ghost use Rattle.wasmnode.specs.Ledger.{balances};
-ghost use Rattle.wasmnode.specs.Views.{shortfall_view, send_view};
+ghost use Rattle.wasmnode.specs.Holding.{Holds};
+ghost use Rattle.wasmnode.specs.Views.{send_view};
 
-use crate::ledger::{Ledger, Shortfall};
 use crate::sends::Send;
+use bank_ledger::{BankStop, send};
 use chain_msgs::{Attribute, Event, FailKind, Failure, TxResult};
-use coin_amounts::coins_text;
+use coin_amounts::{Coins, coins_text};
+use gas_meter::{Meter, OutOfGas, Schedule};
+use kv_layers::{Layers, Plain};
 use std::alloc::{AllocError, Global};
 use std::fmt::Write;
-
-/// The gas of a message.
-const MESSAGE_GAS: u128 = 1000;
-
-/// The gas of each coin of a message.
-const COIN_GAS: u128 = 100;
 
 /// The codespace of the chain's own failures.
 const CODESPACE: &str = "sdk";
 
-/// The gas of a bank send.
-fn send_cost(send: &Send) -> u128
-    ensures { result ≡ send_cost (send_view send.now) }
+/// Charges coins of a message.
+fn charge_coins(meter: &mut Meter, costs: &Schedule, coins: &Coins) -> Result<(), OutOfGas>
+    ensures ok { OnOk result ((coins_cost costs.now (length (coins_view coins.now)) ≤ meter.old.left)
+        × (meter.new ≡ spent meter.old (coins_cost costs.now (length (coins_view coins.now))))) }
+    ensures err { OnErr result ((meter.old.left < coins_cost costs.now (length (coins_view coins.now)))
+        × (meter.new ≡ exhausted meter.old)) }
 {
-    MESSAGE_GAS + COIN_GAS * send.payment.coins.len() as u128
+    let cost = u128::from(costs.coin) * coins.len() as u128;
+    let left = meter.left();
+    if u128::from(left) < cost {
+        meter.spend(left);
+        return Err(OutOfGas);
+    }
+    meter.spend(cost as u64);
+    Ok(())
+}
+
+/// Charges a message and its coins. Where too little gas is left, all of that is used.
+fn charge_send(meter: &mut Meter, costs: &Schedule, send: &Send) -> Result<(), OutOfGas>
+    requires { costs.now ≡ standard_schedule }
+    ensures ok { OnOk result ((send_cost (send_view send.now) ≤ meter.old.left)
+        × (meter.new ≡ spent meter.old (send_cost (send_view send.now)))) }
+    ensures err { OnErr result ((meter.old.left < send_cost (send_view send.now))
+        × (meter.new ≡ exhausted meter.old)) }
+{
+    match meter.charge(costs.message) {
+        Ok(()) => charge_coins(meter, costs, &send.payment.coins),
+        Err(stop) => Err(stop),
+    }
 }
 
 fn attribute(alloc: Global, key: &str, value: String) -> Result<Attribute, AllocError>
@@ -43,8 +66,8 @@ fn transfer(alloc: Global, send: &Send) -> Result<Event, AllocError>
 {
     let amount = coins_text(alloc, &send.payment.coins)?;
     let mut attributes = Vec::with_capacity(alloc, 3)?;
-    attributes.push(attribute(alloc, "recipient", send.payment.to.clone()?)?)?;
-    attributes.push(attribute(alloc, "sender", send.sender.clone()?)?)?;
+    attributes.push(attribute(alloc, "recipient", send.payment.to.text.clone()?)?)?;
+    attributes.push(attribute(alloc, "sender", send.sender.text.clone()?)?)?;
     attributes.push(attribute(alloc, "amount", amount)?)?;
     Ok(Event {
         kind: String::from_str(alloc, "transfer")?,
@@ -75,10 +98,10 @@ fn out_of_gas(alloc: Global) -> Result<Failure, AllocError>
     })
 }
 
-fn not_enough(alloc: Global, short: Shortfall) -> Result<Failure, AllocError>
-    ensures { IfOk result (λ failure. failure_view failure ≡ not_enough_failure (shortfall_view short)) }
+fn not_enough(alloc: Global, denom: String, have: u128, want: u128) -> Result<Failure, AllocError>
+    ensures { IfOk result (λ failure. failure_view failure
+        ≡ not_enough_failure (record { denom = string_bytes denom; have = have; want = want })) }
 {
-    let Shortfall { denom, have, want } = short;
     let mut detail = String::new(alloc);
     write!(detail, "NotEnough {} {} {}", denom, have, want)?;
     Ok(Failure {
@@ -106,28 +129,55 @@ fn succeeded(alloc: Global, send: &Send, gas: u64) -> Result<TxResult, AllocErro
     })
 }
 
+/// Does a transaction that is paid for, and says what it did.
+fn deliver_paid(
+    records: &mut Layers<Plain>,
+    alloc: Global,
+    tx: &Send,
+    gas: u64,
+) -> Result<TxResult, AllocError>
+    requires held { (b : Balances) × Holds records.old b }
+    requires gas { gas ≡ send_cost (send_view tx.now) }
+    requires enough { gas ≤ tx.now.gas }
+    ensures result { IfOk result (λ answer. (b : Balances) → Holds records.old b
+        → result_view answer ≡ (delivered b (send_view tx.now)).result) }
+    ensures held { OnOk result ((b : Balances) → Holds records.old b
+        → Holds records.new (delivered b (send_view tx.now)).balances) }
+{
+    let coins = &tx.payment.coins;
+    match send(
+        alloc,
+        records,
+        &tx.sender.bytes,
+        &tx.payment.to.bytes,
+        coins,
+    ) {
+        Ok(()) => succeeded(alloc, tx, gas),
+        Err(BankStop::NotEnough { denom, have, want }) => {
+            let failure = not_enough(alloc, denom, have, want)?;
+            Ok(failed(alloc, failure, gas))
+        }
+        Err(BankStop::NoMemory) => Err(AllocError),
+    }
+}
+
 /// Does a transaction, and says what it did.
 pub(crate) fn deliver(
-    ledger: &mut Ledger,
+    records: &mut Layers<Plain>,
     alloc: Global,
-    send: &Send,
+    costs: &Schedule,
+    tx: &Send,
 ) -> Result<TxResult, AllocError>
-    ensures result { IfOk result (λ answer. result_view answer
-        ≡ (delivered (balances ledger.old) (send_view send.now)).result) }
-    ensures balances { OnOk result ((address denom : List ℕ) → balances ledger.new address denom
-        ≡ (delivered (balances ledger.old) (send_view send.now)).balances address denom) }
+    requires held { (b : Balances) × Holds records.old b }
+    requires costs { costs.now ≡ standard_schedule }
+    ensures result { IfOk result (λ answer. (b : Balances) → Holds records.old b
+        → result_view answer ≡ (delivered b (send_view tx.now)).result) }
+    ensures held { OnOk result ((b : Balances) → Holds records.old b
+        → Holds records.new (delivered b (send_view tx.now)).balances) }
 {
-    let cost = send_cost(send);
-    if (send.gas as u128) < cost {
-        return Ok(failed(alloc, out_of_gas(alloc)?, send.gas));
-    }
-    let gas = cost as u64;
-    let coins = &send.payment.coins;
-    match ledger.shortfall(alloc, send.sender.as_str(), coins)? {
-        Some(short) => Ok(failed(alloc, not_enough(alloc, short)?, gas)),
-        None => {
-            ledger.pay(alloc, send.sender.as_str(), send.payment.to.as_str(), coins)?;
-            succeeded(alloc, send, gas)
-        }
+    let mut meter = Meter::new(tx.gas);
+    match charge_send(&mut meter, costs, tx) {
+        Ok(()) => deliver_paid(records, alloc, tx, meter.used()),
+        Err(_) => Ok(failed(alloc, out_of_gas(alloc)?, meter.used())),
     }
 }

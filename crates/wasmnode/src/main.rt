@@ -2,14 +2,18 @@
 //! what queries for balances are answered, line by line.
 #![tactic(auto)]
 
+mod account;
+mod address;
 mod chain;
 mod checking;
 mod deliver;
 mod entry;
-mod ledger;
+mod letters;
 mod node;
 mod opening;
 mod options;
+#[cfg(test)]
+mod plain;
 mod sends;
 mod serial;
 mod status;

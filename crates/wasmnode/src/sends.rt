@@ -1,13 +1,13 @@
-ghost use Rattle.std.specs.Prelude.{◌≡◌, string_bytes, map};
+ghost use Rattle.std.specs.Prelude.{map};
 ghost use Rattle.serde_json.specs.View.{view};
 ghost use Rattle.coin_amounts.specs.Coins.{coins_view};
 ghost use Rattle.chain_msgs.specs.Plain.{tx_view};
 ghost use Rattle.line_protocol.specs.Plain.{question_view};
 ghost use Rattle.line_protocol.specs.Reads.{Reads};
-ghost use Rattle.wasmnode.specs.Opening.{is_address};
 ghost use Rattle.wasmnode.specs.Sends.{under, address_at, coins_at, payment_of, only_one, send_of, sends_of, ask_of};
-ghost use Rattle.wasmnode.specs.Views.{payment_view, send_view, ask_view};
+ghost use Rattle.wasmnode.specs.Views.{address_view, prefix_view, payment_view, send_view, ask_view};
 
+use crate::address::{Address, Prefix};
 use chain_msgs::Tx;
 use coin_amounts::{Coins, CoinsFault, RawCoin, read_coins};
 use line_protocol::{BadKind, ParseStop, Question, each_at, read_json, text_at, variant_of};
@@ -17,14 +17,14 @@ use std::alloc::Global;
 /// To whom coins go, and which.
 #[derive(Drop)]
 pub struct Payment {
-    pub to: String,
+    pub to: Address,
     pub coins: Coins,
 }
 
 /// A transaction with one bank send.
 #[derive(Drop)]
 pub struct Send {
-    pub sender: String,
+    pub sender: Address,
     /// The gas that it may use.
     pub gas: u64,
     pub payment: Payment,
@@ -34,15 +34,8 @@ pub struct Send {
 #[derive(Drop)]
 pub struct Ask {
     pub client: u32,
-    pub address: String,
+    pub address: Address,
     pub denom: String,
-}
-
-/// Whether a text can be an address.
-pub(crate) fn is_address(text: &str) -> bool
-    ensures { result ≡ is_address text.now }
-{
-    1 <= text.len() && text.len() <= 256
 }
 
 /// What the variant of this name holds.
@@ -58,15 +51,17 @@ fn under(value: Value, name: &str) -> Result<Value, ParseStop>
 }
 
 /// The address in a field.
-fn address_at(alloc: Global, value: &Value, name: &str) -> Result<String, ParseStop>
-    ensures { Reads string_bytes result (address_at name.now (view value.now)) }
+fn address_at(
+    alloc: Global,
+    prefix: &Prefix,
+    value: &Value,
+    name: &str,
+) -> Result<Address, ParseStop>
+    ensures { Reads address_view result
+        (address_at (prefix_view prefix.now) name.now (view value.now)) }
 {
     let text = text_at(value, name)?;
-    if is_address(text) {
-        Ok(String::from_str(alloc, text)?)
-    } else {
-        Err(ParseStop::Bad(BadKind::Form))
-    }
+    prefix.read(alloc, text)
 }
 
 /// The coins in a field, of which there are some.
@@ -83,12 +78,12 @@ fn coins_at(alloc: Global, value: &Value, name: &str) -> Result<Coins, ParseStop
 
 /// The payment of a bank send.
 #[tactic(auto, unfolding(crate::specs::Sends::payment_of))]
-fn payment_of(alloc: Global, message: Value) -> Result<Payment, ParseStop>
-    ensures { Reads payment_view result (payment_of (view message)) }
+fn payment_of(alloc: Global, prefix: &Prefix, message: Value) -> Result<Payment, ParseStop>
+    ensures { Reads payment_view result (payment_of (prefix_view prefix.now) (view message)) }
 {
     let bank = under(message, "bank")?;
     let send = under(bank, "send")?;
-    let to = address_at(alloc, &send, "to_address")?;
+    let to = address_at(alloc, prefix, &send, "to_address")?;
     let coins = coins_at(alloc, &send, "amount")?;
     Ok(Payment { to, coins })
 }
@@ -105,15 +100,13 @@ fn only_one(mut messages: Vec<Value>) -> Result<Value, ParseStop>
 
 /// The bank send that a transaction is.
 #[tactic(auto, unfolding(crate::specs::Sends::send_of))]
-fn send_of(alloc: Global, tx: Tx) -> Result<Send, ParseStop>
-    ensures { Reads send_view result (send_of (tx_view tx)) }
+fn send_of(alloc: Global, prefix: &Prefix, tx: Tx) -> Result<Send, ParseStop>
+    ensures { Reads send_view result (send_of (prefix_view prefix.now) (tx_view tx)) }
 {
     let Tx { sender, gas, msgs } = tx;
-    if !is_address(sender.as_str()) {
-        return Err(ParseStop::Bad(BadKind::Form));
-    }
+    let sender = prefix.read(alloc, sender.as_str())?;
     let message = only_one(msgs)?;
-    let payment = payment_of(alloc, message)?;
+    let payment = payment_of(alloc, prefix, message)?;
     Ok(Send {
         sender,
         gas,
@@ -122,20 +115,21 @@ fn send_of(alloc: Global, tx: Tx) -> Result<Send, ParseStop>
 }
 
 /// The bank sends that the transactions are.
-pub fn sends_of(alloc: Global, txs: Vec<Tx>) -> Result<Vec<Send>, ParseStop>
-    ensures { Reads (λ sends. map send_view sends.items) result (sends_of (map tx_view txs.items)) }
+pub fn sends_of(alloc: Global, prefix: &Prefix, txs: Vec<Tx>) -> Result<Vec<Send>, ParseStop>
+    ensures { Reads (λ sends. map send_view sends.items) result
+        (sends_of (prefix_view prefix.now) (map tx_view txs.items)) }
 {
     let mut sends = Vec::with_capacity(alloc, txs.len())?;
     for tx in txs {
-        sends.push(send_of(alloc, tx)?)?;
+        sends.push(send_of(alloc, prefix, tx)?)?;
     }
     Ok(sends)
 }
 
 /// The balance that a query asks for.
 #[tactic(auto, unfolding(crate::specs::Sends::ask_of))]
-pub fn ask_of(alloc: Global, question: Question) -> Result<Ask, ParseStop>
-    ensures { Reads ask_view result (ask_of (question_view question)) }
+pub fn ask_of(alloc: Global, prefix: &Prefix, question: Question) -> Result<Ask, ParseStop>
+    ensures { Reads ask_view result (ask_of (prefix_view prefix.now) (question_view question)) }
 {
     if question.height.is_some() {
         return Err(ParseStop::Bad(BadKind::Form));
@@ -143,7 +137,7 @@ pub fn ask_of(alloc: Global, question: Question) -> Result<Ask, ParseStop>
     let request = read_json(alloc, &question.request)?;
     let bank = under(request, "bank")?;
     let balance = under(bank, "balance")?;
-    let address = address_at(alloc, &balance, "address")?;
+    let address = address_at(alloc, prefix, &balance, "address")?;
     let denom = String::from_str(alloc, text_at(&balance, "denom")?)?;
     Ok(Ask {
         client: question.client,

@@ -7,7 +7,7 @@ ghost use Rattle.wasmnode.specs.Halts.{Halts, Ends};
 ghost use Rattle.wasmnode.specs.Playing.{reading_left, rest_left, IsCounted, Never, Opens, Answered, Follows, Ran};
 ghost use Rattle.wasmnode.specs.Reading.{Bad, later_said};
 ghost use Rattle.wasmnode.specs.Run.{bad_answer, Writes};
-ghost use Rattle.wasmnode.specs.Views.{chain_view, start_view};
+ghost use Rattle.wasmnode.specs.Standing.{IsChain, OfChain, SomeChain, SomeStart};
 
 use crate::chain::Chain;
 use crate::entry::{Start, entry_of, start_of};
@@ -35,8 +35,9 @@ fn write_line<K: Sink>(sink: &mut K, text: &[u8]) -> Result<(), Stop>
 fn open_chain<S: Source>(alloc: Global, lines: &mut Lines, source: &mut S) -> Result<Start, Stop>
     requires end { KnowsEnd lines.old (S.left source.old) }
     requires fresh { (number lines.old ≡ 0) × (size lines.old ≡ 0) }
-    ensures opens { IfOk result (λ start. Opens (reading_left lines.old (S.left source.old))
-        (rest_left lines.new (S.left source.new)) (start_view start)) }
+    ensures opens { IfOk result (λ start. SomeStart start (λ s.
+        Opens (reading_left lines.old (S.left source.old))
+        (rest_left s.chain.prefix lines.new (S.left source.new)) s)) }
     ensures low { IfOk result (λ start. start.chain.height ≡ 0) }
     ensures end { OnOk result (KnowsEnd lines.new (S.left source.new)) }
     ensures counted { OnOk result (IsCounted lines.new) }
@@ -66,20 +67,21 @@ fn answer_line<K: Sink>(
     line: RawLine,
     sink: &mut K,
 ) -> Result<(), Stop>
-    requires { chain.old.height + 1 < 2 ^ 64 }
-    ensures answered { OnOk result (Follows (chain_view chain.old)
-        (later_said line.number line.bytes.items) (chain_view chain.new)
-        (K.written sink.old) (K.written sink.new)) }
+    requires low { chain.old.height + 1 < 2 ^ 64 }
+    requires stands { IsChain chain.old }
+    ensures answered { OnOk result (OfChain chain.old (λ c. SomeChain chain.new (λ n.
+        Follows c (later_said c.prefix line.number line.bytes.items) n
+        (K.written sink.old) (K.written sink.new)))) }
     ensures low { OnOk result (chain.new.height ≤ chain.old.height + 1) }
     ensures halts { IfErr result (λ stop. Halts stop
-        (λ bad. (later_said line.number line.bytes.items ≡ None)
+        (λ bad. OfChain chain.old (λ c. (later_said c.prefix line.number line.bytes.items ≡ None)
         × (bad ≡ record { kind = Form; line = line.number })
-        × Keeps (K.written sink.old) (K.written sink.new))
+        × Keeps (K.written sink.old) (K.written sink.new)))
         ⊥ (Rose (K.faults sink.old) (K.faults sink.new))) }
     ensures faults { K.faults sink.old ≤ K.faults sink.new }
 {
     let number = line.number;
-    match entry_of(alloc, line) {
+    match entry_of(alloc, &chain.prefix, line) {
         Ok(Some(entry)) => write_line(sink, &chain.process(alloc, &entry)?),
         Ok(None) => Ok(()),
         Err(stop) => Err(stop_of_parse(number, stop)),
@@ -97,12 +99,15 @@ fn answer_lines<S: Source, K: Sink>(
     requires end { KnowsEnd lines.old (S.left source.old) }
     requires counted { IsCounted lines.old }
     requires low { chain.old.height ≤ number lines.old }
-    ensures answered { OnOk result (Answered (chain_view chain.old)
-        (rest_left lines.old (S.left source.old)) (K.written sink.old) (K.written sink.new) None) }
+    requires stands { IsChain chain.old }
+    ensures answered { OnOk result (OfChain chain.old (λ c. Answered c
+        (rest_left c.prefix lines.old (S.left source.old))
+        (K.written sink.old) (K.written sink.new) None)) }
     ensures read { OnOk result (IsAtEnd (S.left source.new)) }
     ensures halts { IfErr result (λ stop. Halts stop
-        (λ bad. Answered (chain_view chain.old) (rest_left lines.old (S.left source.old))
-        (K.written sink.old) (K.written sink.new) (Some bad))
+        (λ bad. OfChain chain.old (λ c. Answered c
+        (rest_left c.prefix lines.old (S.left source.old))
+        (K.written sink.old) (K.written sink.new) (Some bad)))
         (Rose (S.faults source.old) (S.faults source.new))
         (Rose (K.faults sink.old) (K.faults sink.new))) }
     ensures reads { S.faults source.old ≤ S.faults source.new }

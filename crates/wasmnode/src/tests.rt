@@ -2,10 +2,13 @@ ghost use Rattle.std.specs.Prelude.{None};
 
 use crate::node::node;
 use crate::options::Options;
+use crate::plain::{Plain, Transfer};
 use crate::serial::serial;
 use crate::status::Status;
+use base64::engine::general_purpose::STANDARD;
 use outside_io::{Failed, MemSink, MemSource, NoShelf, OpenGate, Sink, Source, SureSource};
 use std::alloc::{AllocError, Global};
+use std::fmt::Write as FmtWrite;
 use std::io::Write;
 use std::process::Abort;
 use std::test::Fail;
@@ -33,7 +36,7 @@ const QUERY_ANSWER: &str =
 
 /// Two sends that fail: one has too little gas by one, and one sends a coin more than there is.
 const FAILING: &str =
-    r#"{"block":{"time":"2","txs":[{"gas":1099,"msgs":[{"bank":{"send":{"amount":[{"amount":"1","denom":"utok"}],"to_address":"b"}}}],"sender":"abcdef1qpzry9x8gf2tvdw0s3jn54khce6mua7lmqqqxw"},{"gas":1100,"msgs":[{"bank":{"send":{"amount":[{"amount":"8","denom":"utok"}],"to_address":"b"}}}],"sender":"abcdef1qpzry9x8gf2tvdw0s3jn54khce6mua7lmqqqxw"}]}}"#;
+    r#"{"block":{"time":"2","txs":[{"gas":1099,"msgs":[{"bank":{"send":{"amount":[{"amount":"1","denom":"utok"}],"to_address":"abcdef1qpzry9x8gf2tvdw0s3jn54khce6mua77xk54mu"}}}],"sender":"abcdef1qpzry9x8gf2tvdw0s3jn54khce6mua7lmqqqxw"},{"gas":1100,"msgs":[{"bank":{"send":{"amount":[{"amount":"8","denom":"utok"}],"to_address":"abcdef1qpzry9x8gf2tvdw0s3jn54khce6mua77xk54mu"}}}],"sender":"abcdef1qpzry9x8gf2tvdw0s3jn54khce6mua7lmqqqxw"}]}}"#;
 
 const FAILING_ANSWER: &str =
     r#"{"block":{"body":{"height":2,"results":[{"code":11,"codespace":"sdk","data":[],"detail":"OutOfGas","events":[],"gas":1099},{"code":5,"codespace":"sdk","data":[],"detail":"NotEnough utok 7 8","events":[],"gas":1100}]},"digest":"14dab9498909ff75d1eb1ac27ab88ab7760862ecba34438e7f0252fc0690c550"}}"#;
@@ -150,10 +153,10 @@ const BAD_LINES: &[(&[&str], &[&str], &str, u64)] = &[
         "form",
         4,
     ),
-    // two holdings of one address, and a supply of 2^128
+    // two holdings of one address, in two spellings, and a supply of 2^128
     (
         &[
-            r#"{"genesis":{"authority":null,"balances":[{"address":"a","coins":[]},{"address":"a","coins":[]}],"capabilities":[],"chain_id":"t-1","prefix":"abcdef","query_gas":1,"time":"0"}}"#,
+            r#"{"genesis":{"authority":null,"balances":[{"address":"abcdef1qpzry9x8gf2tvdw0s3jn54khce6mua7lmqqqxw","coins":[]},{"address":"ABCDEF1QPZRY9X8GF2TVDW0S3JN54KHCE6MUA7LMQQQXW","coins":[]}],"capabilities":[],"chain_id":"t-1","prefix":"abcdef","query_gas":1,"time":"0"}}"#,
         ],
         &[],
         "form",
@@ -161,7 +164,7 @@ const BAD_LINES: &[(&[&str], &[&str], &str, u64)] = &[
     ),
     (
         &[
-            r#"{"genesis":{"authority":null,"balances":[{"address":"a","coins":[{"amount":"340282366920938463463374607431768211455","denom":"utok"}]},{"address":"b","coins":[{"amount":"1","denom":"utok"}]}],"capabilities":[],"chain_id":"t-1","prefix":"abcdef","query_gas":1,"time":"0"}}"#,
+            r#"{"genesis":{"authority":null,"balances":[{"address":"abcdef1qpzry9x8gf2tvdw0s3jn54khce6mua7lmqqqxw","coins":[{"amount":"340282366920938463463374607431768211455","denom":"utok"}]},{"address":"abcdef1qpzry9x8gf2tvdw0s3jn54khce6mua77xk54mu","coins":[{"amount":"1","denom":"utok"}]}],"capabilities":[],"chain_id":"t-1","prefix":"abcdef","query_gas":1,"time":"0"}}"#,
         ],
         &[],
         "form",
@@ -171,7 +174,7 @@ const BAD_LINES: &[(&[&str], &[&str], &str, u64)] = &[
     (
         &[
             GENESIS,
-            r#"{"block":{"time":"1","txs":[{"gas":1,"msgs":[],"sender":"a"}]}}"#,
+            r#"{"block":{"time":"1","txs":[{"gas":1,"msgs":[],"sender":"abcdef1qpzry9x8gf2tvdw0s3jn54khce6mua7lmqqqxw"}]}}"#,
         ],
         &[GENESIS_ANSWER],
         "form",
@@ -180,7 +183,7 @@ const BAD_LINES: &[(&[&str], &[&str], &str, u64)] = &[
     (
         &[
             GENESIS,
-            r#"{"block":{"time":"1","txs":[{"gas":1,"msgs":[{"bank":{"send":{"amount":[],"to_address":"b"}}}],"sender":"a"}]}}"#,
+            r#"{"block":{"time":"1","txs":[{"gas":1,"msgs":[{"bank":{"send":{"amount":[],"to_address":"abcdef1qpzry9x8gf2tvdw0s3jn54khce6mua77xk54mu"}}}],"sender":"abcdef1qpzry9x8gf2tvdw0s3jn54khce6mua7lmqqqxw"}]}}"#,
         ],
         &[GENESIS_ANSWER],
         "form",
@@ -189,7 +192,7 @@ const BAD_LINES: &[(&[&str], &[&str], &str, u64)] = &[
     (
         &[
             GENESIS,
-            r#"{"block":{"time":"1","txs":[{"gas":1.0,"msgs":[{"bank":{"send":{"amount":[{"amount":"1","denom":"utok"}],"to_address":"b"}}}],"sender":"a"}]}}"#,
+            r#"{"block":{"time":"1","txs":[{"gas":1.0,"msgs":[{"bank":{"send":{"amount":[{"amount":"1","denom":"utok"}],"to_address":"abcdef1qpzry9x8gf2tvdw0s3jn54khce6mua77xk54mu"}}}],"sender":"abcdef1qpzry9x8gf2tvdw0s3jn54khce6mua7lmqqqxw"}]}}"#,
         ],
         &[GENESIS_ANSWER],
         "form",
@@ -198,7 +201,7 @@ const BAD_LINES: &[(&[&str], &[&str], &str, u64)] = &[
     (
         &[
             GENESIS,
-            r#"{"query":{"client":1,"height":0,"request":{"bank":{"balance":{"address":"a","denom":"utok"}}}}}"#,
+            r#"{"query":{"client":1,"height":0,"request":{"bank":{"balance":{"address":"abcdef1qpzry9x8gf2tvdw0s3jn54khce6mua7lmqqqxw","denom":"utok"}}}}}"#,
         ],
         &[GENESIS_ANSWER],
         "form",
@@ -338,6 +341,211 @@ fn a_failed_write_ends_the_run_after_the_bytes_before_it(rt: HostRuntime) -> Res
         assert_eq!(rt; status, Status::WriteFault);
         assert_eq!(rt; slim.sink.bytes(), &whole[..call]);
     }
+    Ok(())
+}
+
+const A: &str = "abcdef1qpzry9x8gf2tvdw0s3jn54khce6mua7lmqqqxw";
+
+const B: &str = "abcdef1qpzry9x8gf2tvdw0s3jn54khce6mua77xk54mu";
+
+const C: &str = "abcdef1qpzry9x8gf2tvdw0s3jn54khce6mua7ag9pr4r";
+
+const UPPER_A: &str = "ABCDEF1QPZRY9X8GF2TVDW0S3JN54KHCE6MUA7LMQQQXW";
+
+const UPPER_B: &str = "ABCDEF1QPZRY9X8GF2TVDW0S3JN54KHCE6MUA77XK54MU";
+
+/// Lines with an address, which stands in place of the `@`.
+const GENESIS_HOLDING: &str =
+    r#"{"genesis":{"authority":null,"balances":[{"address":"@","coins":[{"amount":"10","denom":"utok"}]}],"capabilities":[],"chain_id":"t-1","prefix":"abcdef","query_gas":1000000,"time":"0"}}"#;
+
+const GENESIS_AUTHORITY: &str =
+    r#"{"genesis":{"authority":"@","balances":[],"capabilities":[],"chain_id":"t-1","prefix":"abcdef","query_gas":1000000,"time":"0"}}"#;
+
+const BLOCK_SENDER: &str =
+    r#"{"block":{"time":"1","txs":[{"gas":5000,"msgs":[{"bank":{"send":{"amount":[{"amount":"3","denom":"utok"}],"to_address":"abcdef1qpzry9x8gf2tvdw0s3jn54khce6mua77xk54mu"}}}],"sender":"@"}]}}"#;
+
+const BLOCK_RECIPIENT: &str =
+    r#"{"block":{"time":"1","txs":[{"gas":5000,"msgs":[{"bank":{"send":{"amount":[{"amount":"3","denom":"utok"}],"to_address":"@"}}}],"sender":"abcdef1qpzry9x8gf2tvdw0s3jn54khce6mua7lmqqqxw"}]}}"#;
+
+const QUERY_ADDRESS: &str =
+    r#"{"query":{"client":1,"height":null,"request":{"bank":{"balance":{"address":"@","denom":"utok"}}}}}"#;
+
+/// The line with this address.
+fn with_address(alloc: Global, line: &str, address: &str) -> Result<String, AllocError> {
+    match line.split_once('@') {
+        Some((before, after)) => format!(in alloc; "{before}{address}{after}"),
+        None => String::from_str(alloc, line),
+    }
+}
+
+#[test]
+fn an_address_in_upper_case_is_written_in_lower_case(rt: HostRuntime) -> Result<(), Fail> {
+    let alloc = rt.alloc();
+    let genesis = with_address(alloc, GENESIS_HOLDING, UPPER_A)?;
+    let sender = with_address(alloc, BLOCK_SENDER, UPPER_A)?;
+    let query = with_address(alloc, QUERY_ADDRESS, UPPER_A)?;
+    let wanted = joined(alloc, &[GENESIS_ANSWER, BLOCK_ANSWER, QUERY_ANSWER])?;
+    let input = joined(alloc, &[genesis.as_str(), sender.as_str(), query.as_str()])?;
+    expect_run(&rt, alloc, input, Status::Done, &wanted)?;
+    let recipient = with_address(alloc, BLOCK_RECIPIENT, UPPER_B)?;
+    let input = joined(alloc, &[GENESIS, recipient.as_str(), QUERY])?;
+    expect_run(&rt, alloc, input, Status::Done, &wanted)
+}
+
+/// Texts that are no addresses: nothing, no separator, a letter that bech32 lacks, a wrong checksum,
+/// letters in both cases, another prefix, no bytes, 65 bytes, bits that fill no byte, and bits other
+/// than 0 behind the last byte.
+const UNREADABLE: [&str; 10] = [
+    "",
+    "a",
+    "abcdef1bpzry9x8gf2tvdw0s3jn54khce6mua7lmqqqxw",
+    "abcdef1qpzry9x8gf2tvdw0s3jn54khce6mua7lmqqqxq",
+    "Abcdef1qpzry9x8gf2tvdw0s3jn54khce6mua7lmqqqxw",
+    "abcdeg1qpzry9x8gf2tvdw0s3jn54khce6mua7ls7htt9",
+    "abcdef1hu3qdg",
+    "abcdef1qqqqqqqqqqqqqqqqqqqqqqqqqqqqqqqqqqqqqqqqqqqqqqqqqqqqqqqqqqqqqqqqqqqqqqqqqqqqqqqqqqqqqqqqqqqqqqqqqqqqqeumj02",
+    "abcdef1qqqlewqfh",
+    "abcdef1qp2a4y4w",
+];
+
+#[test]
+fn a_line_with_an_address_that_is_none_is_bad(rt: HostRuntime) -> Result<(), Fail> {
+    let alloc = rt.alloc();
+    for text in UNREADABLE {
+        for line in [GENESIS_HOLDING, GENESIS_AUTHORITY] {
+            let bad = with_address(alloc, line, text)?;
+            let wanted = joined(alloc, &[r#"{"bad_line":{"kind":"form","line":1}}"#])?;
+            let input = joined(alloc, &[bad.as_str()])?;
+            expect_run(&rt, alloc, input, Status::BadLine, &wanted)?;
+        }
+        for line in [BLOCK_SENDER, BLOCK_RECIPIENT, QUERY_ADDRESS] {
+            let bad = with_address(alloc, line, text)?;
+            let answer = r#"{"bad_line":{"kind":"form","line":2}}"#;
+            let wanted = joined(alloc, &[GENESIS_ANSWER, answer])?;
+            let input = joined(alloc, &[GENESIS, bad.as_str()])?;
+            expect_run(&rt, alloc, input, Status::BadLine, &wanted)?;
+        }
+    }
+    Ok(())
+}
+
+/// A genesis in which two of three addresses hold two denoms.
+const THREE: &str =
+    r#"{"genesis":{"authority":null,"balances":[{"address":"abcdef1qpzry9x8gf2tvdw0s3jn54khce6mua7lmqqqxw","coins":[{"amount":"60","denom":"utok"},{"amount":"50","denom":"atok"}]},{"address":"abcdef1qpzry9x8gf2tvdw0s3jn54khce6mua77xk54mu","coins":[{"amount":"40","denom":"utok"}]}],"capabilities":[],"chain_id":"t-1","prefix":"abcdef","query_gas":1000000,"time":"0"}}"#;
+
+/// The balances of that genesis.
+fn opened(alloc: Global) -> Result<Plain, AllocError> {
+    let mut plain = Plain::new(alloc);
+    plain.set(alloc, A, "utok", 60)?;
+    plain.set(alloc, A, "atok", 50)?;
+    plain.set(alloc, B, "utok", 40)?;
+    Ok(plain)
+}
+
+/// The next number of a fixed sequence.
+fn chance(state: &mut u64) -> u64 {
+    *state = state
+        .wrapping_mul(6_364_136_223_846_793_005)
+        .wrapping_add(1_442_695_040_888_963_407);
+    *state >> 33
+}
+
+fn some_address(state: &mut u64) -> &'static str {
+    match chance(state) % 3 {
+        0 => A,
+        1 => B,
+        _ => C,
+    }
+}
+
+fn some_transfer(state: &mut u64) -> Transfer {
+    let atok = chance(state) % 3 * 6;
+    Transfer {
+        from: some_address(state),
+        to: some_address(state),
+        atok,
+        utok: if atok == 0 {
+            chance(state) % 20 + 1
+        } else {
+            chance(state) % 2 * 15
+        },
+        gas: 1_050 + chance(state) % 8 * 50,
+    }
+}
+
+/// Adds a block of sends to the input, and the front of its answer to the answers.
+fn push_block(
+    alloc: Global,
+    state: &mut u64,
+    height: usize,
+    plain: &mut Plain,
+    input: &mut String,
+) -> Result<String, AllocError> {
+    let mut answer = format!(in alloc;
+        "{{\"block\":{{\"body\":{{\"height\":{height},\"results\":["
+    )?;
+    write!(input, "{{\"block\":{{\"time\":\"{height}\",\"txs\":[")?;
+    for place in 0..20 {
+        let comma = if place > 0 { "," } else { "" };
+        let transfer = some_transfer(state);
+        let json = transfer.json(alloc)?;
+        let result = plain.send(alloc, &transfer)?;
+        write!(input, "{comma}{json}")?;
+        write!(answer, "{comma}{result}")?;
+    }
+    input.push_str("]}}\n")?;
+    answer.push_str("]},\"digest\":\"")?;
+    Ok(answer)
+}
+
+/// Adds a query for each balance to the input, and gives their answers.
+fn push_queries(
+    alloc: Global,
+    height: usize,
+    plain: &Plain,
+    input: &mut String,
+    answers: &mut Vec<String>,
+) -> Result<(), AllocError> {
+    for address in [A, B, C] {
+        for denom in ["atok", "utok"] {
+            writeln!(
+                input,
+                "{{\"query\":{{\"client\":1,\"height\":null,\"request\":{{\"bank\":{{\"balance\":{{\"address\":\"{address}\",\"denom\":\"{denom}\"}}}}}}}}}}"
+            )?;
+            let amount = plain.amount(alloc, address, denom)?;
+            let value = format!(in alloc;
+                "{{\"amount\":{{\"amount\":\"{amount}\",\"denom\":\"{denom}\"}}}}"
+            )?;
+            let text = STANDARD.encode(alloc, value.as_bytes())?;
+            answers.push(format!(in alloc;
+                "{{\"query\":{{\"client\":1,\"gas\":1000,\"height\":{height},\"n\":{height},\"result\":{{\"ok\":{{\"ok\":\"{text}\"}}}}}}}}"
+            )?)?;
+        }
+    }
+    Ok(())
+}
+
+#[test]
+fn a_plain_map_of_balances_gives_the_same_answers(rt: HostRuntime) -> Result<(), Fail> {
+    let alloc = rt.alloc();
+    let mut plain = opened(alloc)?;
+    let mut state = 1;
+    let mut input = format!(in alloc; "{THREE}\n")?;
+    let mut answers = vec![in alloc; String::from_str(alloc, GENESIS_ANSWER)?]?;
+    for height in 1..=20 {
+        let answer = push_block(alloc, &mut state, height, &mut plain, &mut input)?;
+        answers.push(answer)?;
+        push_queries(alloc, height, &plain, &mut input, &mut answers)?;
+    }
+    let mut source = SureSource::new(Vec::from_slice(alloc, input.as_bytes())?);
+    let mut sink = MemSink::new(alloc, 1_048_576, Vec::new(alloc))?;
+    assert_eq!(rt; run(alloc, &mut source, &mut sink), Status::Done);
+    let mut lines = sink.bytes().split(|byte| *byte == b'\n');
+    for answer in &answers {
+        let line = lines.next().unwrap_or(b"");
+        assert!(rt; line.starts_with(answer.as_bytes()), "{answer}");
+    }
+    assert_eq!(rt; lines.count(), 1);
     Ok(())
 }
 

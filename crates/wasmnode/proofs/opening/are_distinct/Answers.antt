@@ -1,7 +1,5 @@
-use Rattle.std.proofs.Common.{◌≡◌, ◌∙◌, true, false, cond, sym, ap, string_bytes, bytes_eq}
-use Rattle.std.proofs.lemmas.Map.Text.{btree_set_updates_text}
-use Rattle.std.specs.BTreeSet.{contains_text}
-use Rattle.wasmnode.proofs.Distinct.{names, met_more, new_all, new_step, not_true}
+use Rattle.std.proofs.Common.{◌≡◌, ◌∙◌, true, false, cond, sym, ap, bytes_eq}
+use Rattle.wasmnode.proofs.Distinct.{names, met_more, new_all, new_step, not_true, has_bytes, set_changed}
 use Rattle.wasmnode.proofs.opening.are_distinct.Goals as goal
 
 pub loop-account-init : goal.loop-account-init
@@ -13,16 +11,17 @@ loop-account-preserved c =
     let items = c.args.accounts.now in
     let account = c.account-item.result in
     let inv = c.loop-account.invariant in
-    let clone = c.in_ok-clone.ensures.cases in
-    let absent : contains_text c.loop-account.before (string_bytes c.in_ok-clone.field-0) ≡ false = not_true _ _ c.in_ok-insert.ensures.added c.if-not-branch.false in
-    let new = sym (inv.has (string_bytes account.address)) ∙ ap (contains_text c.loop-account.before) (sym clone) ∙ absent in
+    let bytes = c.in_ok-copied_bytes.field-0.items in
+    let clone = c.in_ok-copied_bytes.ensures in
+    let absent : has_bytes c.loop-account.before bytes ≡ false = not_true _ _ c.in_ok-insert.ensures.added c.if-not-branch.false in
+    let new = sym (inv.has account.address.bytes.items) ∙ ap (has_bytes c.loop-account.before) (sym clone) ∙ absent in
     let within = c.loop-account-test.true in
     let is = c.account-item.is in
     record {
       has = λ address.
-          btree_set_updates_text (string_bytes c.in_ok-clone.field-0) c.loop-account.before c.insert.new.self true c.in_ok-insert.ensures.updates address
-          ∙ ap (λ bs. cond (bytes_eq bs address) true (contains_text c.loop-account.before address)) clone
-          ∙ ap (cond (bytes_eq (string_bytes account.address) address) true) (inv.has address)
+          set_changed c.loop-account.before c.insert.new.self bytes true c.in_ok-insert.ensures.updates address
+          ∙ ap (λ bs. cond (bytes_eq bs address) true (has_bytes c.loop-account.before address)) clone
+          ∙ ap (cond (bytes_eq account.address.bytes.items address) true) (inv.has address)
           ∙ met_more items i account within is address;
       left = new_step items i account within is new ∙ inv.left;
     }
