@@ -41,10 +41,10 @@ def line(value):
 def main():
     accounts, blocks, sends = map(int, sys.argv[1:])
     chance = random.Random(1)
-    names = [address("bench", number.to_bytes(20, "big")) for number in range(accounts)]
+    names = [address("bench", number.to_bytes(5, "big")) for number in range(accounts)]
     line({"genesis": {
         "authority": None,
-        "balances": [{"address": name, "coins": [{"amount": "1000000000", "denom": "utok"}]} for name in names],
+        "balances": [{"address": name, "coins": [{"amount": "1000000", "denom": "utok"}]} for name in names],
         "capabilities": [], "chain_id": "bench-1", "prefix": "bench", "query_gas": 1000000, "time": "0",
     }})
     for height in range(1, blocks + 1):
