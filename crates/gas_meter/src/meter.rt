@@ -2,9 +2,11 @@ ghost use Rattle.std.specs.Prelude.{◌≡◌, ◌+◌, ◌^◌, ◌<◌, ◌≤
 ghost use Rattle.gas_meter.specs.Gas.{unused, spent, exhausted};
 
 use std::marker::Model;
+use thiserror::Error;
 
 /// A charge for more than was left. All gas is used.
-#[derive(Clone, Copy, Debug, PartialEq, Eq)]
+#[derive(Clone, Copy, Debug, PartialEq, Eq, Error)]
+#[error("out of gas")]
 pub struct OutOfGas;
 
 /// How much gas is left of a limit, and how much was used.
@@ -61,6 +63,21 @@ impl Meter {
         }
         self.spend(n);
         Ok(())
+    }
+
+    /// Uses gas for a cost that may have more than 64 bits. Where too little is left, all of that is used.
+    pub fn charge_wide(&mut self, n: u128) -> Result<(), OutOfGas>
+        ensures refused { IsErr result ↔ (self.old.left < n) }
+        ensures ok { OnOk result (self.new ≡ spent self.old n) }
+        ensures err { OnErr result (self.new ≡ exhausted self.old) }
+    {
+        match u64::try_from(n) {
+            Ok(cost) => self.charge(cost),
+            Err(_) => {
+                self.spend(self.left);
+                Err(OutOfGas)
+            }
+        }
     }
 
     /// A meter of its own for a part of what is left. What it uses is to be spent here afterwards.

@@ -22,6 +22,27 @@ fn a_meter_charges_exactly_what_is_left(rt: HostRuntime) {
 }
 
 #[test]
+fn a_wide_charge_is_compared_whole(rt: HostRuntime) {
+    // a charge of a fresh meter of 100, whether it is taken, what is left
+    for (n, want, left) in [
+        (100, Ok(()), 0),
+        (99, Ok(()), 1),
+        (101, Err(OutOfGas), 0),
+        (1 << 64, Err(OutOfGas), 0),
+        ((1 << 64) + 1, Err(OutOfGas), 0),
+        (u128::MAX, Err(OutOfGas), 0),
+    ] {
+        let mut meter = Meter::new(100);
+        assert_eq!(rt; meter.charge_wide(n), want, "at {n}");
+        assert_eq!(rt;
+            (meter.left(), meter.used()),
+            (left, 100 - left),
+            "after {n}"
+        );
+    }
+}
+
+#[test]
 fn a_part_is_the_smaller_of_its_limit_and_what_is_left(rt: HostRuntime) {
     let mut meter = Meter::new(100);
     assert_eq!(rt; meter.charge(40), Ok(()));
