@@ -9,3 +9,4 @@ pub mod Delta
 pub mod Layers
 pub mod Lowest
 pub mod Merge
+pub mod Spelling

@@ -10,7 +10,7 @@ use std::ops::Bound;
 
 /// Bounds of keys: `lo` is included and `hi` is not.
 #[derive(Debug, Drop)]
-pub(crate) struct Bounds {
+pub struct Bounds {
     pub(crate) lo: Option<Vec<u8>>,
     pub(crate) hi: Option<Vec<u8>>,
 }
@@ -18,11 +18,8 @@ pub(crate) struct Bounds {
 impl Bounds {
     ghost use Rattle.kv_layers.specs.Sorted.{lower, upper, narrowed_lower, narrowed_upper, AreCrossed, start_of, end_of};
 
-    pub(crate) fn new(
-        alloc: Global,
-        lo: Option<&[u8]>,
-        hi: Option<&[u8]>,
-    ) -> Result<Bounds, AllocError>
+    /// With copies of these, or without a bound where there is none.
+    pub fn new(alloc: Global, lo: Option<&[u8]>, hi: Option<&[u8]>) -> Result<Bounds, AllocError>
         ensures lo { IfOk result (λ b. lower b ≡ option_copied lo.entry) }
         ensures hi { IfOk result (λ b. upper b ≡ option_copied hi.entry) }
     {
@@ -31,13 +28,15 @@ impl Bounds {
         Ok(Bounds { lo, hi })
     }
 
-    pub(crate) fn lo(&self) -> Option<&[u8]>
+    /// The lower bound.
+    pub fn lo(&self) -> Option<&[u8]>
         ensures { option_copied result ≡ lower self.now }
     {
         shown(&self.lo)
     }
 
-    pub(crate) fn hi(&self) -> Option<&[u8]>
+    /// The upper bound.
+    pub fn hi(&self) -> Option<&[u8]>
         ensures { option_copied result ≡ upper self.now }
     {
         shown(&self.hi)
@@ -74,7 +73,7 @@ impl Bounds {
     }
 
     /// Leaves only the keys that come after the one given.
-    pub(crate) fn narrow_past(&mut self, key: Vec<u8>, order: Order) -> Result<(), AllocError>
+    pub fn narrow_past(&mut self, key: Vec<u8>, order: Order) -> Result<(), AllocError>
         ensures lo { OnOk result (lower self.new ≡ narrowed_lower order (lower self.old) key.items) }
         ensures hi { OnOk result (upper self.new ≡ narrowed_upper order (upper self.old) key.items) }
     {

@@ -27,6 +27,7 @@ pub struct Layers<B> {
     base: B,
     below: Vec<Layer>,
     newest: Layer,
+    /// Empty, with room for the lowest layer's changes, so that the delta needs no more memory.
     room: Vec<Change>,
     ghost empty: { vec_len room ≡ 0 },
     ghost roomy: { lowest_len newest below.items ≤ vec_capacity room },

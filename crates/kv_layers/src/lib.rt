@@ -14,6 +14,7 @@ mod sorted;
 mod tests;
 
 pub use base::Base;
+pub use bounds::Bounds;
 pub use delta::Delta;
 pub use layer::Change;
 pub use layers::Layers;

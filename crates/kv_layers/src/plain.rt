@@ -52,8 +52,7 @@ impl Plain {
 impl Base for Plain {
     ghost stands_for = { λ plain map. plain ≡ map };
 
-    fn get(&self, alloc: Global, key: &[u8]) -> Result<Option<Vec<u8>>, AllocError> {
-        let _ = alloc;
+    fn get(&self, _alloc: Global, key: &[u8]) -> Result<Option<Vec<u8>>, AllocError> {
         owned_value(self.entries.get(key))
     }
 
