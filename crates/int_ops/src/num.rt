@@ -1,6 +1,8 @@
 ghost use Rattle.std.specs.Prelude.{◌≡◌};
 ghost use Rattle.int_ops.specs.Numerics.{truth};
 
+use thiserror::Error;
+
 /// An integer of 32 or of 64 bits, which by itself has no sign.
 #[derive(Clone, Copy, Debug, PartialEq, Eq)]
 pub enum Num {
@@ -9,9 +11,11 @@ pub enum Num {
 }
 
 /// Why a division or a remainder has no value.
-#[derive(Clone, Copy, Debug, PartialEq, Eq)]
+#[derive(Clone, Copy, Debug, PartialEq, Eq, Error)]
 pub enum NumTrap {
+    #[error("division by zero")]
     DivideByZero,
+    #[error("the quotient is above the greatest integer")]
     IntegerOverflow,
 }
 

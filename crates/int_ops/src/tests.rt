@@ -24,7 +24,7 @@ fn expect_unary(rt: &impl Abort, op: u8, a: Num, want: Num) {
 }
 
 #[test]
-fn instructions_on_two_i32_give_what_whole_numbers_give(rt: HostRuntime) {
+fn instructions_on_two_integers_give_what_whole_numbers_give(rt: HostRuntime) {
     for (op, wanted) in (0x46..=0x4F).zip(&TESTS32) {
         for (a, row) in EDGES32.iter().zip(wanted) {
             for (b, want) in EDGES32.iter().zip(row) {
@@ -41,10 +41,6 @@ fn instructions_on_two_i32_give_what_whole_numbers_give(rt: HostRuntime) {
             }
         }
     }
-}
-
-#[test]
-fn instructions_on_two_i64_give_what_whole_numbers_give(rt: HostRuntime) {
     for (op, wanted) in (0x51..=0x5A).zip(&TESTS64) {
         for (a, row) in EDGES64.iter().zip(wanted) {
             for (b, want) in EDGES64.iter().zip(row) {
@@ -61,6 +57,12 @@ fn instructions_on_two_i64_give_what_whole_numbers_give(rt: HostRuntime) {
             }
         }
     }
+    let least = Num::I64(1 << 63);
+    let minus_one = Num::I64(u64::MAX);
+    expect_binary(&rt, 0x7F, least, minus_one, Err(IntegerOverflow));
+    expect_binary(&rt, 0x81, least, minus_one, Ok(Num::I64(0)));
+    expect_binary(&rt, 0x6E, Num::I32(1), Num::I32(0), Err(DivideByZero));
+    expect_binary(&rt, 0x74, Num::I32(1), Num::I32(33), Ok(Num::I32(2)));
 }
 
 #[test]
@@ -75,16 +77,6 @@ fn instructions_on_one_integer_give_what_whole_numbers_give(rt: HostRuntime) {
             expect_unary(&rt, *op, Num::I64(*a), *want);
         }
     }
-}
-
-#[test]
-fn divisions_trap_and_shift_counts_are_reduced(rt: HostRuntime) {
-    let least = Num::I64(1 << 63);
-    let minus_one = Num::I64(u64::MAX);
-    expect_binary(&rt, 0x7F, least, minus_one, Err(IntegerOverflow));
-    expect_binary(&rt, 0x81, least, minus_one, Ok(Num::I64(0)));
-    expect_binary(&rt, 0x6E, Num::I32(1), Num::I32(0), Err(DivideByZero));
-    expect_binary(&rt, 0x74, Num::I32(1), Num::I32(33), Ok(Num::I32(2)));
 }
 
 #[test]
