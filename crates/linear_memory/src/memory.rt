@@ -5,9 +5,11 @@ ghost use Rattle.linear_memory.specs.Pages.{page_size, most_pages, pages_of, zer
 use crate::numbers::{bytes16, bytes32, bytes64, number16, number32, number64};
 use std::alloc::{AllocError, Global};
 use std::marker::Model;
+use thiserror::Error;
 
 /// A place that lies past the end of the memory.
-#[derive(Clone, Copy, Debug, PartialEq, Eq)]
+#[derive(Clone, Copy, Debug, PartialEq, Eq, Error)]
+#[error("past the end of the memory")]
 pub struct OutOfBounds;
 
 /// The bytes of a memory, in whole pages of 65,536 bytes, of which there are at most 512.

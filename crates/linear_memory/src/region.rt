@@ -5,28 +5,32 @@ ghost use Rattle.linear_memory.specs.Regions.{region, region_read, region_writte
 use crate::memory::Memory;
 use crate::numbers::{bytes32, number32};
 use std::alloc::Global;
+use thiserror::Error;
 
 /// Why a Region can't be read or written: the first that holds.
-#[derive(Clone, Copy, Debug, PartialEq, Eq)]
+#[derive(Clone, Copy, Debug, PartialEq, Eq, Error)]
 pub enum RegionBad {
-    /// The Region's own 12 bytes pass the end of the memory.
+    #[error("the region's own 12 bytes pass the end of the memory")]
     Pointer,
-    /// The offset is 0.
+    #[error("the region's offset is 0")]
     Offset,
-    /// The length is above the capacity.
+    #[error("the region's length is above its capacity")]
     Length,
-    /// The offset and the capacity together are above 2^32 - 1.
+    #[error("the region's offset and capacity together are above 2^32 - 1")]
     Range,
-    /// The bytes pass the end of the memory.
+    #[error("the region's bytes pass the end of the memory")]
     End,
-    /// There are more bytes than the limit, which of a write is the capacity.
+    /// The limit of a write is the capacity.
+    #[error("{length} bytes, of which there may be {limit}")]
     TooLong { length: u32, limit: u32 },
 }
 
 /// Why a Region was not read.
-#[derive(Clone, Copy, Debug, PartialEq, Eq)]
+#[derive(Clone, Copy, Debug, PartialEq, Eq, Error)]
 pub enum RegionFault {
+    #[error(transparent)]
     Bad(RegionBad),
+    #[error("out of memory")]
     NoMemory,
 }
 

@@ -61,7 +61,7 @@ fn expect_growth(rt: &impl Abort, alloc: Global, memory: &mut Memory, by: u32, w
 }
 
 #[test]
-fn numbers_are_little_endian_and_as_wide_as_asked(rt: HostRuntime) -> Result<(), Fail> {
+fn numbers_are_little_endian_and_lie_within_the_memory(rt: HostRuntime) -> Result<(), Fail> {
     let mut memory = Memory::new(rt.alloc(), 1)?;
     expect_store(&rt, &mut memory, 10, 8, 0x0102_0304_0506_0708);
     expect_bytes(&rt, &memory, 9, b"\0\x08\x07\x06\x05\x04\x03\x02\x01\0");
@@ -77,12 +77,7 @@ fn numbers_are_little_endian_and_as_wide_as_asked(rt: HostRuntime) -> Result<(),
         expect_store(&rt, &mut memory, at, width, value);
     }
     expect_bytes(&rt, &memory, 19, b"\0\xFF\0\x01\x80\x01\0\0\x80\0");
-    Ok(())
-}
-
-#[test]
-fn what_passes_the_end_is_refused(rt: HostRuntime) -> Result<(), Fail> {
-    let mut memory = Memory::new(rt.alloc(), 1)?;
+    // what passes the end is refused
     for width in [1, 2, 4, 8] {
         let last = 65_536 - u64::from(width);
         expect_load(&rt, &memory, last, width, Some(0));
@@ -132,7 +127,7 @@ fn a_memory_grows_by_zeros_up_to_512_pages(rt: HostRuntime) -> Result<(), Fail> 
 }
 
 #[test]
-fn a_region_is_written_and_read(rt: HostRuntime) -> Result<(), Fail> {
+fn a_region_is_read_and_written_or_its_first_fault_is_told(rt: HostRuntime) -> Result<(), Fail> {
     let alloc = rt.alloc();
     let mut memory = Memory::new(alloc, 1)?;
     put_region(&rt, &mut memory, (2048, 5, 0));
@@ -149,13 +144,6 @@ fn a_region_is_written_and_read(rt: HostRuntime) -> Result<(), Fail> {
     put_region(&rt, &mut memory, (1030, 8, 0));
     expect_put(&rt, &mut memory, b"abcdefgh", Ok(()));
     expect_bytes(&rt, &memory, 1030, b"ab\x08\0\0\0gh");
-    Ok(())
-}
-
-#[test]
-fn the_first_fault_of_a_region_is_told(rt: HostRuntime) -> Result<(), Fail> {
-    let alloc = rt.alloc();
-    let mut memory = Memory::new(alloc, 1)?;
     // the numbers of the Region, and why it is not read with a limit of 9
     for (numbers, want) in [
         ((0, 0, 1), RegionBad::Offset),
