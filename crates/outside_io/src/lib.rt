@@ -1,5 +1,6 @@
-//! What lies outside the programs: a source of bytes, a sink for them, a shelf of files, and a gate
-//! that tests may hold. Nothing is trusted to succeed: each failure is counted by the object.
+//! What lies outside the programs: a source of bytes, a sink for them, a shelf of files, the words that a
+//! program was called with, and a gate that tests may hold. Nothing is trusted to succeed: each failure is
+//! counted by the object.
 #![tactic(auto)]
 
 mod counted_calls;
@@ -15,6 +16,7 @@ mod sure_source;
 #[cfg(test)]
 mod tests;
 mod unread;
+mod words;
 
 pub use gate::{Gate, OpenGate, Point};
 pub use mem_sink::MemSink;
@@ -25,3 +27,4 @@ pub use source::{Failed, Source};
 pub use std_sink::StdSink;
 pub use std_source::StdSource;
 pub use sure_source::SureSource;
+pub use words::words_of;

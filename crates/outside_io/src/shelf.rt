@@ -2,11 +2,14 @@ ghost use Rattle.std.specs.Prelude.{ℕ, ◌≤◌, ◌≡◌, IsOk};
 ghost use Rattle.outside_io.specs.Cause.{Rose};
 
 use std::alloc::Global;
+use thiserror::Error;
 
 /// Why a call of a shelf failed.
-#[derive(Clone, Copy, Debug, PartialEq, Eq)]
+#[derive(Clone, Copy, Debug, PartialEq, Eq, Error)]
 pub enum ShelfFault {
+    #[error("a call of a shelf failed")]
     Failed,
+    #[error("out of memory")]
     NoMemory,
 }
 
