@@ -5,3 +5,4 @@ pub mod Importing
 pub mod Passing
 pub mod BodyList
 pub mod Halves
+pub mod Named

@@ -1,8 +1,11 @@
 -- What a set of the names of exports has, and what a call says of an export.
-use Rattle.std.specs.Prelude.{◌≡◌, ℕ, List, None, Result, Ok, Err, String, ⊤}
+use Rattle.std.specs.Prelude.{◌≡◌, ℕ, Bool, List, None, Result, Ok, Err, ⊤}
+use Rattle.std.specs.Borrow.{Bor}
 use Rattle.std.specs.List.{list_any}
 use Rattle.std.specs.Str.{bytes_eq}
-use Rattle.std.specs.BTreeSet.{BTreeSet, contains_text}
+use Rattle.std.specs.Cmp.Lexicographic.{slice_cmp}
+use Rattle.std.specs.Ordering.{nat_cmp}
+use Rattle.std.specs.BTreeSet.{BTreeSet, contains_by}
 use Rattle.wasm_types.specs.declared.kind.ValidKind.{ValidKind}
 use Rattle.wasm_types.specs.Plain.{PlainExport}
 use Rattle.wasm_valid.specs.declared.stop.TypingStop.{TypingStop}
@@ -10,8 +13,11 @@ use Rattle.wasm_valid.specs.declared.stop.TypingStop.TheVariants as typing_stops
 use Rattle.wasm_valid.specs.declared.stop.ValidStop.{ValidStop}
 use Rattle.wasm_valid.specs.declared.stop.ValidStop.TheVariants as stops
 
-abbrev pub HasNames : {Y : Type 0} → BTreeSet (String Y) → List PlainExport → Type 0
-HasNames names exports = (name : List ℕ) → contains_text names name ≡ list_any (λ other. bytes_eq other.name name) exports
+abbrev pub has_name : BTreeSet (Bor (List ℕ)) → List ℕ → Bool
+has_name names name = contains_by (λ k. slice_cmp nat_cmp name k.now) names
+
+abbrev pub HasNames : BTreeSet (Bor (List ℕ)) → List PlainExport → Type 0
+HasNames names exports = (name : List ℕ) → has_name names name ≡ list_any (λ other. bytes_eq other.name name) exports
 
 abbrev pub Keeps : Result (Unit {0}) TypingStop → Result (Unit {0}) ValidKind → Type 0
 Keeps (Ok done) wanted = wanted ≡ Ok tt

@@ -35,10 +35,8 @@ impl OpenBlock {
         ensures result_kept { self.new.result ≡ self.old.result }
         ensures label { self.new.label ≡ self.old.label }
     {
-        match self.operands.take_if(self.result) {
-            Ok(()) => self.operands.check_empty(),
-            Err(kind) => Err(kind),
-        }
+        self.operands.take_if(self.result)?;
+        self.operands.check_empty()
     }
 
     /// Ends the first part of an `if` and begins the other.
@@ -46,29 +44,21 @@ impl OpenBlock {
         ensures ends { Ends result (ended self.old.result (stack self.old.operands)) }
         ensures begun { OnOk result (frame self.new ≡ other_part (frame self.old)) }
     {
-        match self.end_part() {
-            Ok(()) => {
-                self.may_else = false;
-                self.operands.clear();
-                Ok(())
-            }
-            Err(kind) => Err(kind),
-        }
+        self.end_part()?;
+        self.may_else = false;
+        self.operands.clear();
+        Ok(())
     }
 
     /// Ends the block. Where an `else` didn't come, the other part of the `if` is empty.
     fn end(&mut self) -> Result<(), ValidKind>
         ensures { Ends result (ended_frame (frame self.old)) }
     {
-        match self.end_part() {
-            Ok(()) => {
-                if self.may_else && self.result.is_some() {
-                    return Err(ValidKind::Underflow);
-                }
-                Ok(())
-            }
-            Err(kind) => Err(kind),
+        self.end_part()?;
+        if self.may_else && self.result.is_some() {
+            return Err(ValidKind::Underflow);
         }
+        Ok(())
     }
 }
 
@@ -118,15 +108,13 @@ impl Blocks {
     pub fn close(&mut self) -> Result<bool, ValidKind>
         ensures { Closes result (frames self.old) (frames self.new) }
     {
-        match self.inner.end() {
-            Ok(()) => match self.outer.pop() {
-                Some(around) => {
-                    self.inner = around;
-                    Ok(true)
-                }
-                None => Ok(false),
-            },
-            Err(kind) => Err(kind),
+        self.inner.end()?;
+        match self.outer.pop() {
+            Some(around) => {
+                self.inner = around;
+                Ok(true)
+            }
+            None => Ok(false),
         }
     }
 

@@ -1,12 +1,11 @@
-ghost use Rattle.std.specs.Prelude.{◌≡◌, ℕ, ◌++◌, ◌∷◌, [], List, map, not, cond, true, string_bytes, OnOk, IfOk};
+ghost use Rattle.std.specs.Prelude.{◌≡◌, ℕ, ◌++◌, ◌∷◌, [], List, map, not, cond, true, OnOk, IfOk};
 ghost use Rattle.std.specs.Str.{bytes_eq};
-ghost use Rattle.std.specs.BTreeSet.{contains_text};
 ghost use Rattle.wasm_types.specs.Plain.{PlainModule, PlainExport, plain_export, plain_module};
 ghost use Rattle.wasm_types.specs.Laws.{AreFew};
 ghost use Rattle.wasm_types.specs.Validity.{ext_kept, export_kept, first_in};
 ghost use Rattle.wasm_valid.specs.Stacks.{Ends};
 ghost use Rattle.wasm_valid.specs.Spaces.{AreSpaces, Faults};
-ghost use Rattle.wasm_valid.specs.Names.{HasNames, Keeps, item_stop};
+ghost use Rattle.wasm_valid.specs.Names.{has_name, HasNames, Keeps, item_stop};
 
 use crate::items::is_there;
 use crate::spaces::Spaces;
@@ -27,32 +26,28 @@ fn check_ext(spaces: &Spaces, ext: Ext) -> Result<(), ValidKind>
 }
 
 /// Adds a name, and tells whether it is new.
-fn add_name(names: &mut BTreeSet<String>, name: &String) -> Result<bool, AllocError>
-    ensures added { IfOk result (λ new. new ≡ not (contains_text names.old (string_bytes name.now))) }
-    ensures has { OnOk result ((x : List ℕ) → contains_text names.new x
-        ≡ cond (bytes_eq (string_bytes name.now) x) true (contains_text names.old x)) }
+fn add_name<'a>(names: &mut BTreeSet<&'a str>, name: &'a str) -> Result<bool, AllocError>
+    ensures added { IfOk result (λ new. new ≡ not (has_name names.old name.now)) }
+    ensures has { OnOk result ((x : List ℕ) → has_name names.new x
+        ≡ cond (bytes_eq name.now x) true (has_name names.old x)) }
 {
-    let own = name.clone()?;
-    let added = names.insert(own)?;
+    let added = names.insert(name)?;
     Ok(added)
 }
 
 /// An export, behind others with these names.
-fn check_export(
+fn check_export<'a>(
     spaces: &Spaces,
-    names: &mut BTreeSet<String>,
-    export: &Export,
+    names: &mut BTreeSet<&'a str>,
+    export: &'a Export,
 ) -> Result<(), TypingStop>
     ensures kept { (m : PlainModule) (earlier : List PlainExport) → AreSpaces spaces.now m → HasNames names.old earlier →
         Keeps result (export_kept m earlier (plain_export export.now)) }
     ensures names { OnOk result ((earlier : List PlainExport) → HasNames names.old earlier →
         HasNames names.new (earlier ++ plain_export export.now ∷ [])) }
 {
-    match check_ext(spaces, export.ext) {
-        Ok(()) => {}
-        Err(kind) => return Err(TypingStop::Wrong(kind)),
-    }
-    if add_name(names, &export.name)? {
+    check_ext(spaces, export.ext)?;
+    if add_name(names, export.name.as_str())? {
         Ok(())
     } else {
         Err(TypingStop::Wrong(ValidKind::ExportTwice))

@@ -12,7 +12,6 @@ ghost use Rattle.wasm_valid.specs.Stacks.{Ends};
 ghost use Rattle.wasm_valid.specs.Spaces.{AreSpaces, Faults};
 
 use crate::context::GlobalType;
-use crate::operands::same_type;
 use crate::rules::type_of;
 use crate::spaces::Spaces;
 use crate::stop::ValidStop;
@@ -83,7 +82,7 @@ impl Item for u32 {
 fn may_start(i: u32, imported: usize, g: GlobalType, ty: ValType) -> bool
     ensures { result ≡ (nat_lt i imported && not g.mutable && typing.same_type ty g.ty) }
 {
-    (i as usize) < imported && !g.mutable && same_type(ty, g.ty)
+    (i as usize) < imported && !g.mutable && ty == g.ty
 }
 
 /// Whether an initialiser is one of this type: a constant, or an imported global that isn't mutable.
@@ -92,7 +91,7 @@ pub fn check_init(spaces: &Spaces, ty: ValType, init: Init) -> Result<(), ValidK
 {
     match init {
         Init::Const(value) => {
-            if same_type(ty, type_of(value)) {
+            if ty == type_of(value) {
                 Ok(())
             } else {
                 Err(ValidKind::Init)
@@ -138,14 +137,8 @@ impl Item for Elem {
     ghost kept = { elem_kept };
 
     fn check(&self, _m: &Module, spaces: &Spaces) -> Result<(), ValidKind> {
-        match is_there(ValidKind::TableIndex, self.table, spaces.tables) {
-            Ok(()) => {}
-            Err(kind) => return Err(kind),
-        }
-        match check_init(spaces, ValType::I32, self.offset) {
-            Ok(()) => {}
-            Err(kind) => return Err(kind),
-        }
+        is_there(ValidKind::TableIndex, self.table, spaces.tables)?;
+        check_init(spaces, ValType::I32, self.offset)?;
         if are_there(&self.funcs, spaces.funcs.len()) {
             Ok(())
         } else {
@@ -162,9 +155,7 @@ impl Item for Seg {
     ghost kept = { seg_kept };
 
     fn check(&self, _m: &Module, spaces: &Spaces) -> Result<(), ValidKind> {
-        match is_there(ValidKind::MemoryIndex, self.memory, spaces.memories) {
-            Ok(()) => check_init(spaces, ValType::I32, self.offset),
-            Err(kind) => Err(kind),
-        }
+        is_there(ValidKind::MemoryIndex, self.memory, spaces.memories)?;
+        check_init(spaces, ValType::I32, self.offset)
     }
 }

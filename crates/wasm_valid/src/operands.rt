@@ -12,22 +12,6 @@ pub struct Operands {
     any: bool,
 }
 
-/// Whether two types are one.
-pub fn same_type(a: ValType, b: ValType) -> bool
-    ensures { result ≡ same_type a b }
-{
-    match a {
-        ValType::I32 => match b {
-            ValType::I32 => true,
-            ValType::I64 => false,
-        },
-        ValType::I64 => match b {
-            ValType::I32 => false,
-            ValType::I64 => true,
-        },
-    }
-}
-
 impl Operands {
     ghost use Rattle.std.specs.Prelude.{◌≡◌, [], ◌++◌, reverse, IfOk, OnErr, Ok, option_to_list};
     ghost use Rattle.wasm_types.specs.Typing.{no_operands, any_operands, pop, taken, all_taken, pushed, given, nothing_left};
@@ -66,7 +50,7 @@ impl Operands {
         match self.pop()? {
             None => Ok(()),
             Some(t) => {
-                if same_type(wanted, t) {
+                if wanted == t {
                     Ok(())
                 } else {
                     Err(ValidKind::Mismatch)
@@ -85,12 +69,15 @@ impl Operands {
         }
     }
 
-    /// Takes all of these, the last one first.
+    /// Takes all of these, the last one first. Where none is left after a branch, it takes no time.
     pub fn take_all(&mut self, wanted: &[ValType]) -> Result<(), ValidKind>
         ensures { Leaves result (stack self.new) (all_taken (reverse wanted.now) (stack self.old)) }
     {
         let mut left = wanted.len();
         while left > 0 {
+            if self.any && self.types.is_empty() {
+                return Ok(());
+            }
             left -= 1;
             self.take(wanted[left])?;
         }

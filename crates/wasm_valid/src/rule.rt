@@ -1,4 +1,4 @@
-use crate::operands::{Operands, same_type};
+use crate::operands::Operands;
 use crate::stop::TypingStop;
 use wasm_types::{FuncType, ValType, ValidKind};
 
@@ -143,7 +143,7 @@ fn one_of(second: Option<ValType>, first: Option<ValType>) -> Result<Option<ValT
         Some(t) => match first {
             None => Ok(Some(t)),
             Some(u) => {
-                if same_type(t, u) {
+                if t == u {
                     Ok(Some(t))
                 } else {
                     Err(ValidKind::Mismatch)

@@ -10,7 +10,6 @@ ghost use Rattle.wasm_valid.specs.Frames.{labels, frames};
 use crate::access::{accessed, natural_alignment};
 use crate::blocks::Blocks;
 use crate::context::{Context, local_type};
-use crate::operands::same_type;
 use crate::rule::{Rule, Takes};
 use wasm_types::{FuncType, Instr, ValType, ValidKind, Value};
 
@@ -227,26 +226,11 @@ fn is_label(blocks: &Blocks, label: u32) -> bool
     label as usize <= blocks.outer.len()
 }
 
-fn is_same(t: Option<ValType>, u: Option<ValType>) -> bool
-    ensures { result ≡ typing.same_result t u }
-{
-    match t {
-        None => u.is_none(),
-        Some(t) => match u {
-            None => false,
-            Some(u) => same_type(t, u),
-        },
-    }
-}
-
 /// Whether the label is there, and is of this type.
 fn is_of(blocks: &Blocks, t: Option<ValType>, label: u32) -> bool
     ensures { result ≡ is_label_of (labels (frames blocks.now)) t label }
 {
-    match blocks.label(label) {
-        Some(u) => is_same(t, u),
-        None => false,
-    }
+    blocks.label(label) == Some(t)
 }
 
 fn are_labels(blocks: &Blocks, targets: &[u32]) -> bool

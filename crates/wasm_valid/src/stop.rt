@@ -3,18 +3,21 @@ ghost use Rattle.wasm_valid.specs.declared.stop.ValidStop.TheVariants as valid_s
 ghost use Rattle.wasm_valid.specs.declared.stop.TypingStop.TheVariants as typing_stops;
 
 use std::alloc::{AllocError, AllocFailed};
+use thiserror::Error;
 use wasm_types::ValidKind;
 
 /// Why a module wasn't found valid.
-#[derive(Clone, Copy, Debug, PartialEq, Eq)]
+#[derive(Clone, Copy, Debug, PartialEq, Eq, Error)]
 pub enum ValidStop {
     /// The first fault. `func` is the place of a body among the codes, and then `instr` that of an
     /// instruction in it; elsewhere `instr` is the place of an item in its list.
+    #[error("the module is not valid: {kind:?} at place {instr}")]
     Invalid {
         func: Option<u32>,
         instr: u32,
         kind: ValidKind,
     },
+    #[error("memory ran out")]
     NoMemory,
 }
 

@@ -39,18 +39,9 @@ fn check_heads(m: &Module, spaces: &Spaces) -> Result<(), ValidStop>
     requires spaces { AreSpaces spaces.now (plain_module m.now) }
     ensures { Faults result (heads_fault (plain_module m.now)) }
 {
-    match check_imports(m) {
-        Ok(()) => {}
-        Err(stop) => return Err(stop),
-    }
-    match check_items(m, spaces, &m.funcs) {
-        Ok(()) => {}
-        Err(stop) => return Err(stop),
-    }
-    match check_tables(m, spaces) {
-        Ok(()) => {}
-        Err(stop) => return Err(stop),
-    }
+    check_imports(m)?;
+    check_items(m, spaces, &m.funcs)?;
+    check_tables(m, spaces)?;
     check_memories(m, spaces)
 }
 
@@ -60,22 +51,10 @@ fn check_contents(alloc: Global, m: &Module, spaces: &Spaces) -> Result<(), Vali
     requires spaces { AreSpaces spaces.now (plain_module m.now) }
     ensures { Faults result (contents_fault (plain_module m.now)) }
 {
-    match check_items(m, spaces, &m.globals) {
-        Ok(()) => {}
-        Err(stop) => return Err(stop),
-    }
-    match check_exports(alloc, m, spaces) {
-        Ok(()) => {}
-        Err(stop) => return Err(stop),
-    }
-    match check_items(m, spaces, &m.elems) {
-        Ok(()) => {}
-        Err(stop) => return Err(stop),
-    }
-    match check_bodies(alloc, m, spaces) {
-        Ok(()) => {}
-        Err(stop) => return Err(stop),
-    }
+    check_items(m, spaces, &m.globals)?;
+    check_exports(alloc, m, spaces)?;
+    check_items(m, spaces, &m.elems)?;
+    check_bodies(alloc, m, spaces)?;
     check_items(m, spaces, &m.segs)
 }
 
