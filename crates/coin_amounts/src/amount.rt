@@ -4,8 +4,11 @@ ghost use Rattle.std.specs.Char.{is_ascii_digit};
 ghost use Rattle.std.specs.List.{list_all};
 ghost use Rattle.coin_amounts.specs.Amount.{amount_of};
 
+use thiserror::Error;
+
 /// A text that is no amount.
-#[derive(Clone, Copy, Debug, PartialEq, Eq)]
+#[derive(Clone, Copy, Debug, PartialEq, Eq, Error)]
+#[error("not an amount of at most 128 bits in digits")]
 pub struct AmountBad;
 
 /// Reads one or more digits `0` to `9`. Zeros may stand in front, a sign may not.

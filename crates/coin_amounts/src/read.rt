@@ -10,15 +10,21 @@ use crate::coins::Coins;
 use crate::denom::is_denom;
 use std::alloc::{AllocError, AllocFailed, Global};
 use std::collections::BTreeMap;
+use thiserror::Error;
 
 /// Why a list of coins can't be read, and at which place of the list, counted from 0.
-#[derive(Clone, Copy, Debug, PartialEq, Eq)]
+#[derive(Clone, Copy, Debug, PartialEq, Eq, Error)]
 pub enum CoinsFault {
+    #[error("coin {0}: not a denom")]
     DenomBad(usize),
+    #[error("coin {0}: not an amount")]
     AmountBad(usize),
+    #[error("coin {0}: an amount of zero")]
     AmountZero(usize),
     /// The same denom stands at an earlier place.
+    #[error("coin {0}: its denom stands at an earlier place")]
     DenomTwice(usize),
+    #[error("out of memory")]
     NoMemory,
 }
 
