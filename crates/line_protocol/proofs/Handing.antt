@@ -1,5 +1,5 @@
 -- What the gathered bytes say of the bytes that were waiting before.
-use Rattle.std.proofs.Common.{Result, Ok, Err, IfErr, ◌≡◌, ℕ, suc, ◌+◌, ◌-◌, ◌<◌, ◌≤◌, ◌⊎◌, Option, None, Some, List, [], ◌++◌, length, get_or, take, drop, refl, sym, ap, ◌∙◌, arith, length-take, append-nil, append_assoc, add-one}
+use Rattle.std.proofs.Common.{Result, Ok, Err, IfErr, IsErrAnd, inr, true, ◌∷◌, ◌≡◌, ℕ, suc, ◌+◌, ◌-◌, ◌<◌, ◌≤◌, ◌⊎◌, Option, None, Some, List, [], ◌++◌, length, get_or, take, drop, refl, sym, ap, ◌∙◌, arith, length-take, append-nil, append_assoc, add-one}
 use Rattle.std.proofs.KnownBytes.{Consumes-trans}
 use Rattle.std.specs.Io.KnownBytes.{IsAtEnd, prepend_known}
 use Rattle.line_protocol.specs.declared.kind.BadKind.{BadKind}
@@ -7,7 +7,9 @@ use Rattle.line_protocol.specs.declared.kind.BadKind.TheVariants.{Total, Long}
 use Rattle.line_protocol.specs.declared.lines.LineStop.{LineStop}
 use Rattle.line_protocol.specs.declared.lines.LineStop.TheVariants.{Bad, ReadFault, NoMemory}
 use Rattle.line_protocol.specs.declared.lines.RawLine.{RawLine}
-use Rattle.line_protocol.specs.Outcome.{IfLine}
+use Rattle.line_protocol.specs.declared.lines.Lines.{Lines}
+use Rattle.line_protocol.specs.Outcome.{IfLine, IfNoLine}
+use Rattle.line_protocol.specs.Progress.{kept, IsEndedLine}
 use Rattle.line_protocol.specs.Gathering.{IsUnfed, Draws, TakesUnfed, IsSizeStop, IsBad}
 use Rattle.line_protocol.specs.Lines.{raws_of, HandsOut, too_large, oversize}
 use Rattle.line_protocol.proofs.Feeds.{raws-fed, raws-rest}
@@ -119,3 +121,31 @@ stops_rest (Err stop) a b x y before number drawn end unfed some stopped = bad_r
 pub bad_at : (waiting : Option (List ℕ)) (stop : LineStop) {before before' number number' : ℕ} → before ≡ before' → number ≡ number' → IsBad waiting before number stop
     → IsBad waiting before' number' stop
 bad_at waiting stop same same' bad = rw (← same, ← same') bad
+
+-- a line that a line feed ended
+pub fed_size : (y text : List ℕ) (at size : ℕ) → at < length y → text ≡ take at y → size ≡ at + 1 → size ≡ length text + 1
+fed_size y text at size within is_text is_size =
+    let len : length text ≡ at = ap length is_text ∙ take_len y at (omega arith) in
+    omega arith
+
+-- the input's last line, where the input ended it
+pub ended_rest : (r : Result (Option RawLine) LineStop) (lines : Lines) (y : List ℕ) (size : ℕ) → lines.ended ≡ true → IfLine r (λ line. line.bytes.items ≡ y) → IfLine r (λ _. kept lines ≡ []) → IfLine r (λ _. size ≡ length y)
+    → IfLine r (λ line. IsEndedLine (record { text = line.bytes.items; size = size }) lines)
+ended_rest (Err stop) lines y size ended is_text is_rest is_size = tt
+ended_rest (Ok None) lines y size ended is_text is_rest is_size = tt
+ended_rest (Ok (Some line)) lines y size ended is_text is_rest is_size = inr (is_size ∙ ap length (sym is_text), ended, is_rest)
+
+none_before : (front more : List ℕ) → front ++ more ≡ [] → front ≡ []
+none_before [] more none = refl
+none_before (b ∷ front) more none = absurd cc
+
+-- where nothing was gathered, nothing was kept before
+pub nothing_kept : (r : Result (Option RawLine) LineStop) (a b : Option (List ℕ)) (x y : List ℕ) → Draws a b x y → IfNoLine r (y ≡ []) → IfNoLine r (x ≡ [])
+nothing_kept (Err stop) a b x y drawn none = tt
+nothing_kept (Ok (Some line)) a b x y drawn none = tt
+nothing_kept (Ok None) a b x y drawn none = none_before x drawn.taken (sym drawn.onto ∙ none)
+
+-- what holds of a stop holds of a result that is its error
+pub err_is : (P : LineStop → Type 0) (r : Result (Option RawLine) LineStop) (stop : LineStop) → IsErrAnd r (λ found. found ≡ stop) → P stop → IfErr r P
+err_is P (Ok next) stop same holds = tt
+err_is P (Err found) stop same holds = rw same holds

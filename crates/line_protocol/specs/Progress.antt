@@ -1,5 +1,5 @@
 -- How far the lines of a source were handed out.
-use Rattle.std.specs.Prelude.{◌≡◌, ℕ, ◌-◌, Bool, true, List, drop, Option}
+use Rattle.std.specs.Prelude.{◌≡◌, ◌⊎◌, ℕ, ◌+◌, ◌-◌, Bool, true, List, [], drop, length, Option}
 use Rattle.std.specs.Io.KnownBytes.{prepend_known, IsAtEnd}
 use Rattle.line_protocol.specs.declared.lines.Lines.{Lines}
 use Rattle.line_protocol.specs.declared.lines.RawLine.{RawLine}
@@ -36,3 +36,8 @@ pub record IsBehind (old new : Lines) : Type 0 where
 -- a line that was handed out in between, with the input that it took
 abbrev pub taken_line : Lines → Lines → RawLine → Raw
 taken_line old new line = record { text = line.bytes.items; size = new.size - old.size }
+
+-- What ended a line: a line feed, which the line took along, or the input. Then the input's end was read, and nothing is
+-- kept any more.
+abbrev pub IsEndedLine : Raw → Lines → Type 0
+IsEndedLine raw lines = (raw.size ≡ length raw.text + 1) ⊎ ((raw.size ≡ length raw.text) × (is_ended lines ≡ true) × (kept lines ≡ []))

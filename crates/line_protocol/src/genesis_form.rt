@@ -2,8 +2,7 @@ ghost use Rattle.std.specs.Prelude.{◌≡◌};
 ghost use Rattle.chain_msgs.specs.Plain.{Holding, holding_view, genesis_view};
 ghost use Rattle.coin_amounts.specs.Plain.{RawCoin as PlainCoin, raw_coin_view};
 ghost use Rattle.serde_json.specs.View.{view};
-ghost use Rattle.line_protocol.specs.Forms.{raw_coin, holding, genesis_of, is_chain_id, is_prefix, is_lower, chain_id_at, prefix_at};
-ghost use Rattle.std.specs.List.{list_all};
+ghost use Rattle.line_protocol.specs.Forms.{raw_coin, holding, genesis_of, is_chain_id, chain_id_at, prefix_at};
 ghost use Rattle.line_protocol.specs.Reads.{Reads};
 
 use crate::fields::{
@@ -11,6 +10,7 @@ use crate::fields::{
 };
 use crate::kind::BadKind;
 use crate::line::ParseStop;
+use crate::prefix::is_prefix;
 use chain_msgs::Genesis;
 use coin_amounts::RawCoin;
 use serde_json::Value;
@@ -54,25 +54,6 @@ fn is_chain_id(text: &str) -> bool
     ensures { result ≡ is_chain_id text.now }
 {
     1 <= text.len() && text.len() <= 64
-}
-
-/// Whether the text has 1 to 20 letters a to z.
-fn is_prefix(text: &str) -> bool
-    ensures { result ≡ is_prefix text.now }
-{
-    1 <= text.len() && text.len() <= 20 && are_lower(text.as_bytes())
-}
-
-fn are_lower(bytes: &[u8]) -> bool
-    ensures { result ≡ list_all is_lower bytes.now }
-{
-    bytes.iter().all(|b| is_lower(*b))
-}
-
-fn is_lower(b: u8) -> bool
-    ensures { result ≡ is_lower b }
-{
-    b'a' <= b && b <= b'z'
 }
 
 /// The text in a field that passes for a chain id.

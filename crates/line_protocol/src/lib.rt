@@ -10,6 +10,7 @@ mod kind;
 mod line;
 mod line_form;
 mod lines;
+mod prefix;
 mod reply;
 #[cfg(test)]
 mod tests;
@@ -20,5 +21,6 @@ pub use kind::BadKind;
 pub use line::{Line, ParseStop, Question};
 pub use line_form::{parse, read_json, variant_of};
 pub use lines::{LineStop, Lines, RawLine};
+pub use prefix::is_prefix;
 pub use reply::{QueryReply, QueryResult};
 pub use texts::{bad_text, block_text, check_text, genesis_text, query_text};

@@ -3,6 +3,7 @@ ghost use Rattle.std.specs.Prelude.{◌≡◌};
 use crate::kind::BadKind;
 use chain_msgs::{Block, Genesis};
 use std::alloc::{AllocError, AllocFailed};
+use thiserror::Error;
 
 /// A query as it was asked by a client.
 #[derive(Debug, Drop)]
@@ -26,9 +27,11 @@ pub enum Line {
 }
 
 /// Why a line says nothing.
-#[derive(Clone, Copy, Debug, PartialEq, Eq)]
+#[derive(Clone, Copy, Debug, PartialEq, Eq, Error)]
 pub enum ParseStop {
+    #[error("bad line: {0}")]
     Bad(BadKind),
+    #[error("out of memory")]
     NoMemory,
 }
 

@@ -8,6 +8,7 @@ use crate::kind::BadKind;
 use memchr::memchr;
 use outside_io::Source;
 use std::alloc::{AllocError, Global};
+use thiserror::Error;
 
 /// How many bytes are asked of the source at a time.
 const CHUNK: usize = 16384;
@@ -26,11 +27,14 @@ pub struct RawLine {
 }
 
 /// Why there is no next line.
-#[derive(Clone, Copy, Debug, PartialEq, Eq)]
+#[derive(Clone, Copy, Debug, PartialEq, Eq, Error)]
 pub enum LineStop {
     /// The line is too large: `Total` or `Long`.
+    #[error("bad line {number}: {kind}")]
     Bad { number: u64, kind: BadKind },
+    #[error("a read failed")]
     ReadFault,
+    #[error("out of memory")]
     NoMemory,
 }
 
@@ -73,7 +77,7 @@ impl Lines {
     ghost use Rattle.line_protocol.specs.Gathering.{Draws, IsFound, IsReadStop, IsSizeStop, IsBad};
     ghost use Rattle.line_protocol.specs.Outcome.{IfLine, IfNoLine};
     ghost use Rattle.line_protocol.specs.Lines.{HandsOut, oversize, line_feed, max_line};
-    ghost use Rattle.line_protocol.specs.Progress.{kept, is_ended, number, size, waiting, taken_line, KnowsEnd, IsBehind};
+    ghost use Rattle.line_protocol.specs.Progress.{kept, is_ended, number, size, waiting, taken_line, KnowsEnd, IsBehind, IsEndedLine};
 
     /// No line was handed out yet, and nothing was taken.
     pub fn new(alloc: Global) -> Result<Lines, AllocError>
@@ -107,10 +111,14 @@ impl Lines {
             (λ line. (line.number ≡ number self.old + 1) × (number self.new ≡ line.number)) }
         ensures counts { IfLine result
             (λ _. (size self.old < size self.new) × (size self.new ≤ max_input)) }
+        ensures ended { IfLine result
+            (λ line. IsEndedLine (taken_line self.old self.new line) self.new) }
         ensures end { OnOk result (KnowsEnd self.new (S.left source.new)) }
+        ensures stays { OnOk result (is_ended self.old ≡ true → is_ended self.new ≡ true) }
 
         // There is none only at the end, and then there is none again.
         ensures none { IfNoLine result (IsAtEnd (waiting self.old (S.left source.old))) }
+        ensures nothing { IfNoLine result (kept self.old ≡ []) }
         ensures rest { IfNoLine result ((kept self.new ≡ []) × (is_ended self.new ≡ true)) }
         ensures still { IfNoLine result (IsBehind self.old self.new) }
 
@@ -128,10 +136,7 @@ impl Lines {
         ensures unasked { is_ended self.old ≡ true → source.new ≡ source.old }
     {
         match self.gather(source)? {
-            Gathered::Fed(at) => match self.settle(alloc, at, 1) {
-                Ok(line) => Ok(Some(line)),
-                Err(stop) => Err(stop),
-            },
+            Gathered::Fed(at) => Ok(Some(self.settle(alloc, at, 1)?)),
             Gathered::Rest => self.last_line(alloc),
             Gathered::Over => Err(self.overlong(source)),
         }

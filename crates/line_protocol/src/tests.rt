@@ -24,7 +24,7 @@ impl<S: Source> Source for OneByte<S> {
     }
 }
 
-/// Takes each of these lines, and then meets the stop, or else the end.
+/// Takes each of these lines, and then meets the stop, or else the end, twice.
 fn expect_lines<S: Source>(
     rt: &impl Abort,
     alloc: Global,
@@ -39,7 +39,10 @@ fn expect_lines<S: Source>(
         assert_eq!(rt; line.bytes.as_slice(), *text);
     }
     match lines.next(alloc, source) {
-        Ok(line) => assert!(rt; line.is_none() && stop.is_none()),
+        Ok(line) => {
+            assert!(rt; line.is_none() && stop.is_none());
+            assert!(rt; lines.next(alloc, source)?.is_none());
+        }
         Err(found) => assert_eq!(rt; Some(found), stop),
     }
     Ok(())
@@ -66,22 +69,28 @@ fn lines_are_cut_at_line_feeds(rt: HostRuntime) -> Result<(), Fail> {
 }
 
 #[test]
-fn lines_before_a_failed_read_are_handed_out(rt: HostRuntime) -> Result<(), Fail> {
+fn a_failed_read_stops_the_lines_unless_it_comes_after_the_end(
+    rt: HostRuntime,
+) -> Result<(), Fail> {
     let alloc = rt.alloc();
-    let stop = Some(LineStop::ReadFault);
+    let fault = Some(LineStop::ReadFault);
     let none: &[&[u8]] = &[];
-    let cases: &[(&[u8], u64, &[&[u8]])] = &[
-        (b"ab\nc", 0, none),
-        (b"ab\nc", 1, &[b"ab"]),
-        (b"ab\nc\n", 1, &[b"ab", b"c"]),
+    let cases: &[(&[u8], u64, &[&[u8]], Option<LineStop>)] = &[
+        (b"ab\nc", 0, none, fault),
+        (b"ab\nc", 1, &[b"ab"], fault),
+        (b"ab\nc\n", 1, &[b"ab", b"c"], fault),
+        (b"", 1, none, None),
+        (b"ab", 2, &[b"ab"], None),
+        (b"ab\n", 2, &[b"ab"], None),
+        (b"ab\nc", 2, &[b"ab", b"c"], None),
     ];
-    for (input, failing, wanted) in cases {
+    for (input, failing, wanted, stop) in cases {
         let mut source = MemSource::new(input.to_vec(alloc)?, [*failing].to_vec(alloc)?);
-        expect_lines(&rt, alloc, &mut source, wanted, stop)?;
+        expect_lines(&rt, alloc, &mut source, wanted, *stop)?;
     }
     let input = b"ab\ncd".to_vec(alloc)?;
     let mut source = OneByte(MemSource::new(input, [4].to_vec(alloc)?));
-    expect_lines(&rt, alloc, &mut source, &[b"ab"], stop)
+    expect_lines(&rt, alloc, &mut source, &[b"ab"], fault)
 }
 
 /// What the first line of so many bytes and the rest gives.
@@ -118,7 +127,10 @@ fn expect_bad(rt: &impl Abort, alloc: Global, text: &[u8]) {
 }
 
 #[test]
-fn lines_of_no_form_are_bad(rt: HostRuntime) -> Result<(), Fail> {
+fn lines_of_blanks_are_empty_and_lines_of_no_form_bad(rt: HostRuntime) -> Result<(), Fail> {
+    for text in ["", " \t\r"] {
+        assert!(rt; matches!(parse(rt.alloc(), 1, text.as_bytes())?, Line::Empty));
+    }
     let cases: &[&[u8]] = &[
         b"\x0b",
         b"\xff",
@@ -220,14 +232,6 @@ fn queries_are_read(rt: HostRuntime) -> Result<(), Fail> {
         250
     );
     expect_bad(&rt, rt.alloc(), nested_query(rt.alloc(), 126)?.as_bytes());
-    Ok(())
-}
-
-#[test]
-fn lines_of_blanks_are_empty(rt: HostRuntime) -> Result<(), Fail> {
-    for text in ["", " \t\r"] {
-        assert!(rt; matches!(parse(rt.alloc(), 1, text.as_bytes())?, Line::Empty));
-    }
     Ok(())
 }
 
@@ -490,17 +494,12 @@ fn errors_of_the_host_are_written(rt: HostRuntime) -> Result<(), Fail> {
 }
 
 #[test]
-fn answers_to_codes_are_written(rt: HostRuntime) -> Result<(), Fail> {
+fn answers_to_codes_and_to_bad_lines_are_written(rt: HostRuntime) -> Result<(), Fail> {
     let text = check_text(rt.alloc(), "MemoryInitial 513")?;
     assert_eq!(rt;
         text.as_slice(),
         b"{\"check\":\"MemoryInitial 513\"}\n".as_slice()
     );
-    Ok(())
-}
-
-#[test]
-fn bad_lines_are_written(rt: HostRuntime) -> Result<(), Fail> {
     for (kind, name) in [
         (BadKind::Total, "total"),
         (BadKind::Long, "long"),
