@@ -52,24 +52,45 @@ moved z p c hp hc =
     zero_block : (p : ℕ) → p ≡ 0 * 2 ^ 25 + p
     zero_block p = omega arith
 
--- after six values that are the digits of what six values 0 leave, but for 1, the remainder is 1
-pub closed : (s rest c1 c2 c3 c4 c5 c6 : ℕ) → rest ≡ bit_xor (step (step (step (step (step (step s 0) 0) 0) 0) 0) 0) 1
-    → c1 ≡ rest / 0x2000000 % 32 → c2 ≡ rest / 0x100000 % 32 → c3 ≡ rest / 0x8000 % 32 → c4 ≡ rest / 0x400 % 32 → c5 ≡ rest / 0x20 % 32 → c6 ≡ rest / 1 % 32
-    → step (step (step (step (step (step s c1) c2) c3) c4) c5) c6 ≡ 1
-closed s rest c1 c2 c3 c4 c5 c6 e d1 d2 d3 d4 d5 d6 =
-    let z6 = step (step (step (step (step (step s 0) 0) 0) 0) 0) 0 in
-    let fits : rest < 2 ^ 30 = subst (λ n. n < 2 ^ 30) (sym e) (xor_lt 30 z6 1 (step_small _ 0 (omega arith)) (omega arith)) in
+-- six values change the remainder as adding their number to what six values 0 leave does
+abbrev pub zeros_after : ℕ → ℕ
+zeros_after s = step (step (step (step (step (step s 0) 0) 0) 0) 0) 0
+
+abbrev pub six_digits : ℕ → ℕ → ℕ → ℕ → ℕ → ℕ → ℕ
+six_digits c1 c2 c3 c4 c5 c6 = (((((0 * 32 + c1) * 32 + c2) * 32 + c3) * 32 + c4) * 32 + c5) * 32 + c6
+
+appended : (s c1 c2 c3 c4 c5 c6 : ℕ) → c1 < 32 → c2 < 32 → c3 < 32 → c4 < 32 → c5 < 32 → c6 < 32
+    → step (step (step (step (step (step s c1) c2) c3) c4) c5) c6 ≡ bit_xor (zeros_after s) (six_digits c1 c2 c3 c4 c5 c6)
+appended s c1 c2 c3 c4 c5 c6 h1 h2 h3 h4 h5 h6 =
     let p1 = 0 * 32 + c1 in
     let p2 = p1 * 32 + c2 in
     let p3 = p2 * 32 + c3 in
     let p4 = p3 * 32 + c4 in
     let p5 = p4 * 32 + c5 in
-    let p6 = p5 * 32 + c6 in
-    let e1 : step s c1 ≡ bit_xor (step s 0) p1 = ap (λ x. step x c1) (sym (xor_zero_r s)) ∙ moved s 0 c1 (omega arith) (omega arith) in
-    let e2 = ap (λ x. step x c2) e1 ∙ moved (step s 0) p1 c2 (omega arith) (omega arith) in
-    let e3 = ap (λ x. step x c3) e2 ∙ moved (step (step s 0) 0) p2 c3 (omega arith) (omega arith) in
-    let e4 = ap (λ x. step x c4) e3 ∙ moved (step (step (step s 0) 0) 0) p3 c4 (omega arith) (omega arith) in
-    let e5 = ap (λ x. step x c5) e4 ∙ moved (step (step (step (step s 0) 0) 0) 0) p4 c5 (omega arith) (omega arith) in
-    let e6 = ap (λ x. step x c6) e5 ∙ moved (step (step (step (step (step s 0) 0) 0) 0) 0) p5 c6 (omega arith) (omega arith) in
-    let all : p6 ≡ rest = omega arith in
-    e6 ∙ ap (bit_xor z6) (all ∙ e) ∙ sym (xor_assoc z6 z6 1) ∙ ap (λ x. bit_xor x 1) (xor_self z6) ∙ xor_zero_l 1
+    let e1 : step s c1 ≡ bit_xor (step s 0) p1 = ap (λ x. step x c1) (sym (xor_zero_r s)) ∙ moved s 0 c1 (omega arith) h1 in
+    let e2 = ap (λ x. step x c2) e1 ∙ moved (step s 0) p1 c2 (omega arith) h2 in
+    let e3 = ap (λ x. step x c3) e2 ∙ moved (step (step s 0) 0) p2 c3 (omega arith) h3 in
+    let e4 = ap (λ x. step x c4) e3 ∙ moved (step (step (step s 0) 0) 0) p3 c4 (omega arith) h4 in
+    let e5 = ap (λ x. step x c5) e4 ∙ moved (step (step (step (step s 0) 0) 0) 0) p4 c5 (omega arith) h5 in
+    ap (λ x. step x c6) e5 ∙ moved (step (step (step (step (step s 0) 0) 0) 0) 0) p5 c6 (omega arith) h6
+
+xor_back : (z p : ℕ) → bit_xor z (bit_xor z p) ≡ p
+xor_back z p = sym (xor_assoc z z p) ∙ ap (λ x. bit_xor x p) (xor_self z) ∙ xor_zero_l p
+
+-- after six values that are the digits of what six values 0 leave, but for 1, the remainder is 1
+pub closed : (s rest c1 c2 c3 c4 c5 c6 : ℕ) → rest ≡ bit_xor (step (step (step (step (step (step s 0) 0) 0) 0) 0) 0) 1
+    → c1 ≡ rest / 0x2000000 % 32 → c2 ≡ rest / 0x100000 % 32 → c3 ≡ rest / 0x8000 % 32 → c4 ≡ rest / 0x400 % 32 → c5 ≡ rest / 0x20 % 32 → c6 ≡ rest / 1 % 32
+    → step (step (step (step (step (step s c1) c2) c3) c4) c5) c6 ≡ 1
+closed s rest c1 c2 c3 c4 c5 c6 e d1 d2 d3 d4 d5 d6 =
+    let z6 = zeros_after s in
+    let fits : rest < 2 ^ 30 = subst (λ n. n < 2 ^ 30) (sym e) (xor_lt 30 z6 1 (step_small _ 0 (omega arith)) (omega arith)) in
+    let all : six_digits c1 c2 c3 c4 c5 c6 ≡ rest = omega arith in
+    appended s c1 c2 c3 c4 c5 c6 (omega arith) (omega arith) (omega arith) (omega arith) (omega arith) (omega arith) ∙ ap (bit_xor z6) (all ∙ e) ∙ xor_back z6 1
+
+-- no other six values do
+pub closing_number : (s c1 c2 c3 c4 c5 c6 : ℕ) → c1 < 32 → c2 < 32 → c3 < 32 → c4 < 32 → c5 < 32 → c6 < 32
+    → step (step (step (step (step (step s c1) c2) c3) c4) c5) c6 ≡ 1 → six_digits c1 c2 c3 c4 c5 c6 ≡ bit_xor (zeros_after s) 1
+closing_number s c1 c2 c3 c4 c5 c6 h1 h2 h3 h4 h5 h6 one =
+    let z6 = zeros_after s in
+    let p = six_digits c1 c2 c3 c4 c5 c6 in
+    sym (xor_back z6 p) ∙ ap (bit_xor z6) (sym (appended s c1 c2 c3 c4 c5 c6 h1 h2 h3 h4 h5 h6) ∙ one)

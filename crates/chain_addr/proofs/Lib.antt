@@ -4,3 +4,5 @@ pub mod Closing
 pub mod Lettering
 pub mod Joining
 pub mod Ungrouping
+pub mod Writing
+pub mod Recognizing

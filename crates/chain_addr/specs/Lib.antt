@@ -6,3 +6,4 @@ pub mod Contract
 pub mod Groups
 pub mod Letters
 pub mod Reading
+pub mod Text

@@ -3,6 +3,7 @@ ghost use Rattle.chain_addr.specs.Address.{address_of, Decodes};
 ghost use Rattle.chain_addr.specs.Bech32.{IsBech32};
 ghost use Rattle.chain_addr.specs.Letters.{IsPrefix};
 ghost use Rattle.chain_addr.specs.Reading.{ReadsAs, IsReported, IsNormal, lower};
+ghost use Rattle.chain_addr.specs.Text.{text_of};
 
 use crate::characters::lower;
 use crate::checksum::{after_values, closing_values, of_prefix};
@@ -15,7 +16,8 @@ use std::alloc::{AllocError, Global};
 /// The text of the bytes of an address.
 pub fn encode(alloc: Global, prefix: &str, bytes: &[u8]) -> Result<String, AllocError>
     requires { IsPrefix prefix.now }
-    ensures { IfOk result (λ text. IsBech32 prefix.now bytes.now (string_bytes text)) }
+    ensures bech32 { IfOk result (λ text. IsBech32 prefix.now bytes.now (string_bytes text)) }
+    ensures text { IfOk result (λ text. string_bytes text ≡ text_of prefix.now bytes.now) }
 {
     let groups = grouped(alloc, bytes)?;
     let check = closing_values(after_values(of_prefix(prefix.as_bytes()), &groups));
@@ -45,10 +47,7 @@ fn owned(alloc: Global, bytes: &[u8]) -> Result<Vec<u8>, AddrFault>
     ensures bytes { All (λ b. b < 256) bytes.now }
     ensures err { IfErr result (λ fault. fault ≡ AddrFault.NoMemory) }
 {
-    match bytes.to_vec(alloc) {
-        Ok(copy) => Ok(copy),
-        Err(_) => Err(AddrFault::NoMemory),
-    }
+    bytes.to_vec(alloc).map_err(|_| AddrFault::NoMemory)
 }
 
 /// Whether a text is that of an address in lower case. It takes no memory.
@@ -57,7 +56,7 @@ pub fn is_normal(prefix: &str, text: &str) -> bool
     ensures { IsTrue result ↔ IsNormal prefix.now text.now }
 {
     let mut buffer = [0; MOST_BYTES];
-    has_no_upper(text.as_bytes()) && read(prefix.as_bytes(), text.as_bytes(), &mut buffer).is_ok()
+    read(prefix.as_bytes(), text.as_bytes(), &mut buffer).is_ok() && has_no_upper(text.as_bytes())
 }
 
 fn has_no_upper(text: &[u8]) -> bool

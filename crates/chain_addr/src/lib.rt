@@ -7,6 +7,7 @@ mod checksum;
 mod contract;
 mod fault;
 mod groups;
+mod laws;
 mod letters;
 mod read;
 #[cfg(test)]
@@ -16,3 +17,4 @@ mod unpack;
 pub use bech32::{decode, encode, is_normal};
 pub use contract::{classic, predictable};
 pub use fault::{AddrFault, AddrKind};
+pub use laws::{texts_are_read_back, texts_have_one_form};

@@ -69,10 +69,7 @@ fn fault_of(prefix: &[u8], text: &[u8]) -> Option<Misread>
 fn misread(kind: AddrKind, place: Option<usize>) -> Option<Misread>
     ensures { result ≡ misread kind place }
 {
-    match place {
-        Some(at) => Some(Misread { kind, at }),
-        None => None,
-    }
+    place.map(|at| Misread { kind, at })
 }
 
 fn fault_after(prefix: &[u8], text: &[u8], separator: Option<usize>) -> Option<Misread>
