@@ -107,7 +107,7 @@ a_letter c low high = ap (λ (x : ℕ). nat_le 97 x && nat_le x 122) (same_lower
 printed : (c : ℕ) → 97 ≤ c → c ≤ 122 → is_printable c ≡ true
 printed c low high = both (nat_le 33 c) (nat_le c 126) (le-leb 33 c (omega arith)) (le-leb c 126 (omega arith))
 
-all_same : (xs : List ℕ) → All (λ c. lower c ≡ c) xs → map lower xs ≡ xs
+pub all_same : (xs : List ℕ) → All (λ c. lower c ≡ c) xs → map lower xs ≡ xs
 all_same [] same = refl
 all_same (x ∷ xs) same = ap (λ (c : ℕ). c ∷ map lower xs) (All-head (λ c. lower c ≡ c) x xs same) ∙ ap (λ (l : List ℕ). x ∷ l) (all_same xs (All-tail (λ c. lower c ≡ c) x xs same))
 
@@ -385,6 +385,3 @@ is_bech32 prefix text bytes e =
     let p = parted prefix text apart.0 in
     let g = grouped_from (groups_of text) bytes (groups_small text) apart.1 in
     bech32_of prefix text bytes p.0 g.0 p.1 g.1
-
-pub lower_same : (text : List ℕ) → All (λ c. lower c ≡ c) text → map lower text ≡ text
-lower_same text same = all_same text same

@@ -7,3 +7,6 @@ pub mod Halves
 pub mod PartLaws
 pub mod RecordLaws
 pub mod StateLaws
+pub mod ChangeLaws
+pub mod SpellingLaws
+pub mod OrderLaws

@@ -1,4 +1,4 @@
--- A map of bytes spells at most one state, and a record that is written changes the state at its key.
+-- A map of bytes spells at most one state, and what it has under a key is the record of that state.
 use Rattle.std.proofs.Common.{◌≡◌, ◌≢◌, ℕ, Bool, true, false, cond, List, Option, Some, None, refl, sym, ap, subst, ◌∙◌, inl, inr, ◌⊎◌}
 use Rattle.std.specs.Option.{option_map}
 use Rattle.std.specs.declared.cmp.Ordering.{Ordering}
@@ -25,15 +25,15 @@ given stored = Some stored
 abbrev nothing : Option PlainStored
 nothing = None
 
-addressed_total : IsTotalOrder addressed_cmp
+pub addressed_total : IsTotalOrder addressed_cmp
 addressed_total = then_total (on_total (λ (p : Addressed). p.0) nat_list_cmp_total) (on_total (λ (p : Addressed). p.1) nat_list_cmp_total)
 
-addressed_exact : IsAntisymmetric addressed_cmp
+pub addressed_exact : IsAntisymmetric addressed_cmp
 addressed_exact = exact_pairs (slice_cmp nat_cmp) (slice_cmp nat_cmp) exact_bytes exact_bytes
 
 -- ---- lists and keys that are the same or not
 
-list_cases : (a b : List ℕ) → (a ≡ b) ⊎ (a ≢ b)
+pub list_cases : (a b : List ℕ) → (a ≡ b) ⊎ (a ≢ b)
 list_cases a b = go (slice_cmp nat_cmp a b) refl
   where
     tied : a ≡ b → slice_cmp nat_cmp a b ≡ Equal
@@ -44,10 +44,10 @@ list_cases a b = go (slice_cmp nat_cmp a b) refl
     go Equal e = inl (exact_bytes a b e)
     go Greater e = inr (λ p. let t = tied p in absurd cc)
 
-same_bytes : (a b : List ℕ) → a ≡ b → eq_by_cmp (slice_cmp nat_cmp) a b ≡ true
+pub same_bytes : (a b : List ℕ) → a ≡ b → eq_by_cmp (slice_cmp nat_cmp) a b ≡ true
 same_bytes a b p = ap (λ (c : List ℕ). eq_by_cmp (slice_cmp nat_cmp) a c) (sym p) ∙ ap is_eq (tied_itself nat_list_cmp_total a)
 
-other_bytes : (a b : List ℕ) → a ≢ b → eq_by_cmp (slice_cmp nat_cmp) a b ≡ false
+pub other_bytes : (a b : List ℕ) → a ≢ b → eq_by_cmp (slice_cmp nat_cmp) a b ≡ false
 other_bytes a b n = go (slice_cmp nat_cmp a b) refl
   where
     go : (r : Ordering) → slice_cmp nat_cmp a b ≡ r → is_eq r ≡ false
@@ -58,7 +58,7 @@ other_bytes a b n = go (slice_cmp nat_cmp a b) refl
 number_cases : (m n : ℕ) → (m ≡ n) ⊎ (m ≢ n)
 number_cases m n = elim (eqb_tells m n) [ inl p ↦ inl p.1 | inr p ↦ inr p.1 ]
 
-key_cases : (j k : PlainKey) → (j ≡ k) ⊎ (j ≢ k)
+pub key_cases : (j k : PlainKey) → (j ≡ k) ⊎ (j ≢ k)
 key_cases keys.facts keys.facts = inl refl
 key_cases keys.counters keys.counters = inl refl
 key_cases (keys.balance a d) (keys.balance b e) =
@@ -108,7 +108,7 @@ some_belongs : (key : PlainKey) (one stored : PlainStored) → Belongs key one �
 some_belongs key one stored b e = let same : one ≡ stored = cc in subst (λ (s : PlainStored). Belongs key s) same b
 
 -- each record stands under a key where it belongs
-entry_belongs : (s : State) (key : PlainKey) (stored : PlainStored) → entry_of s key ≡ Some stored → Belongs key stored
+pub entry_belongs : (s : State) (key : PlainKey) (stored : PlainStored) → entry_of s key ≡ Some stored → Belongs key stored
 unfolding entry_of
 entry_belongs s keys.facts stored e = some_belongs keys.facts (facts s.facts) stored tt e
 entry_belongs s keys.counters stored e = some_belongs keys.counters (counters s.counters) stored tt e
@@ -190,63 +190,3 @@ is_found map s key None spelled k e = e
 
 pub spells_records : (map : Bytes) (s : State) (key : PlainKey) → Spells map s → IsKey key → IsFound key (get map (key_bytes key)) (entry_of s key)
 spells_records map s key spelled k = subst (λ (found : Option (List ℕ)). IsFound key found (entry_of s key)) (sym (spelled.same key k)) (is_found map s key (entry_of s key) spelled k refl)
-
--- ---- one record is written or removed
-
--- what a map has at a key after a change at another
-record ChangedMap (old new : Bytes) (bytes : List ℕ) (found : Option (List ℕ)) : Type 0 where
-  here : get new bytes ≡ found
-  elsewhere : (q : List ℕ) → q ≢ bytes → get new q ≡ get old q
-
-spells_changed : (map changed : Bytes) (old new : State) (key : PlainKey) (entry : Option PlainStored) → Spells map old → IsKey key → ((stored : PlainStored) → entry ≡ Some stored → IsRecord stored)
-    → ChangesOnly old new key entry → ChangedMap map changed (key_bytes key) (option_map stored_bytes entry) → Spells changed new
-spells_changed map changed old new key entry spelled is_key is_record changes m = record { well_formed = well_formed; same = same; only = only }
-  where
-    well_formed : (k : PlainKey) (stored : PlainStored) → entry_of new k ≡ Some stored → IsKey k × IsRecord stored
-    well_formed k stored e =
-        elim (key_cases k key) [
-          | inl p ↦ (subst IsKey (sym p) is_key, is_record stored (sym changes.changed ∙ ap (entry_of new) (sym p) ∙ e))
-          | inr n ↦ spelled.well_formed k stored (sym (changes.others k n) ∙ e)
-        ]
-
-    other_key : (k : PlainKey) → IsKey k → k ≢ key → key_bytes k ≢ key_bytes key
-    other_key k h n e = n (same_key k key h is_key e)
-
-    same : (k : PlainKey) → IsKey k → get changed (key_bytes k) ≡ option_map stored_bytes (entry_of new k)
-    same k h =
-        elim (key_cases k key) [
-          | inl p ↦ ap (λ (j : PlainKey). get changed (key_bytes j)) p ∙ m.here ∙ ap (option_map stored_bytes) (sym changes.changed ∙ ap (entry_of new) (sym p))
-          | inr n ↦ m.elsewhere (key_bytes k) (other_key k h n) ∙ spelled.same k h ∙ ap (option_map stored_bytes) (sym (changes.others k n))
-        ]
-
-    only : (bytes found : List ℕ) → get changed bytes ≡ Some found → (k : PlainKey) × IsKeyOf bytes k
-    only bytes found e =
-        elim (list_cases bytes (key_bytes key)) [
-          | inl p ↦ (key, record { is_key = is_key; same = sym p })
-          | inr n ↦ spelled.only bytes found (sym (m.elsewhere bytes n) ∙ e)
-        ]
-
-pub spells_written : (map : Bytes) (old new : State) (key : PlainKey) (stored : PlainStored) → Spells map old → IsKey key → IsRecord stored → ChangesOnly old new key (Some stored) → Spells (insert map (key_bytes key) (stored_bytes stored)) new
-spells_written map old new key stored spelled is_key is_record changes =
-    let bytes = key_bytes key in
-    let found = stored_bytes stored in
-    let here : get (insert map bytes found) bytes ≡ Some found = get-insert nat_list_cmp_total map bytes found bytes ∙ ap (λ (b : Bool). cond b (Some found) (get map bytes)) (same_bytes bytes bytes refl) in
-    spells_changed map (insert map bytes found) old new key (Some stored) spelled is_key (λ s e. subst IsRecord (some_same stored s e) is_record) changes (record {
-      here = here;
-      elsewhere = λ q n. get-insert nat_list_cmp_total map bytes found q ∙ ap (λ (b : Bool). cond b (Some found) (get map q)) (other_bytes q bytes n);
-    })
-  where
-    some_same : (x y : PlainStored) → given x ≡ Some y → x ≡ y
-    some_same x y e = cc
-
-pub spells_removed : (map : Bytes) (old new : State) (key : PlainKey) → Spells map old → IsKey key → ChangesOnly old new key None → Spells (remove map (key_bytes key)) new
-spells_removed map old new key spelled is_key changes =
-    let bytes = key_bytes key in
-    let here : get (remove map bytes) bytes ≡ None = get-remove nat_list_cmp_total map bytes bytes ∙ ap (λ (b : Bool). cond b None (get map bytes)) (same_bytes bytes bytes refl) in
-    spells_changed map (remove map bytes) old new key None spelled is_key (λ s e. absurd (nothing_some s e)) changes (record {
-      here = here;
-      elsewhere = λ q n. get-remove nat_list_cmp_total map bytes q ∙ ap (λ (b : Bool). cond b None (get map q)) (other_bytes q bytes n);
-    })
-  where
-    nothing_some : (x : PlainStored) → nothing ≡ Some x → ⊥
-    nothing_some x e = absurd cc

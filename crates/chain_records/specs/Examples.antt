@@ -1,8 +1,12 @@
 -- What the definitions say of small keys and records.
-use Rattle.std.specs.Prelude.{◌≡◌, [], ◌∷◌, ◌++◌, codes, Some, refl}
+use Rattle.std.specs.Prelude.{◌≡◌, [], ◌∷◌, ◌++◌, codes, Some, None, refl}
+use Rattle.std.specs.declared.cmp.Ordering.TheVariants.{Less}
+use Rattle.std.specs.Ordering.{nat_cmp}
+use Rattle.std.specs.Cmp.Lexicographic.{slice_cmp}
 use Rattle.chain_records.specs.Pieces.{optional}
 use Rattle.chain_records.specs.Keys.{balance, code, pin, key_bytes}
 use Rattle.chain_records.specs.Records.{amount, contract, counters, stored_bytes}
+use Rattle.chain_records.specs.Changes.{BecomesUnder}
 
 first_code : key_bytes (code 1) ≡ 2 ∷ 0 ∷ 0 ∷ 0 ∷ 0 ∷ 0 ∷ 0 ∷ 0 ∷ 1 ∷ []
 unfolding key_bytes
@@ -29,3 +33,11 @@ contract_with_an_admin :
     ≡ (0 ∷ 0 ∷ 0 ∷ 0 ∷ 0 ∷ 0 ∷ 0 ∷ 9 ∷ []) ++ (0 ∷ 0 ∷ 0 ∷ 0 ∷ 0 ∷ 0 ∷ 0 ∷ 1 ∷ 0xAA ∷ []) ++ (1 ∷ 0 ∷ 0 ∷ 0 ∷ 0 ∷ 0 ∷ 0 ∷ 0 ∷ 1 ∷ 0xBB ∷ []) ++ (0 ∷ 0 ∷ 0 ∷ 0 ∷ 0 ∷ 0 ∷ 0 ∷ 1 ∷ codes "l")
 unfolding stored_bytes optional
 contract_with_an_admin = refl
+
+-- the last change of a key is what is left of it
+removed_after_written : BecomesUnder (pin 1) None ((pin 1, Some (amount 7)) ∷ (pin 1, None) ∷ []) None
+removed_after_written = (λ same. (λ again. refl, λ differ. absurd (differ refl)), λ differ. absurd (differ refl))
+
+code_255_before_256 : slice_cmp nat_cmp (key_bytes (code 255)) (key_bytes (code 256)) ≡ Less
+unfolding key_bytes
+code_255_before_256 = refl

@@ -47,6 +47,10 @@ HasShortAddress (balance addr denom) = length addr ≤ 255
 HasShortAddress (storage addr key) = length addr ≤ 255
 HasShortAddress key = Unit {0}
 
+-- an address of an account has 1 to 64 bytes
+abbrev pub IsAddress : List ℕ → Type 0
+IsAddress addr = (1 ≤ length addr) × (length addr ≤ 64)
+
 -- a number has 64 bits, and a denom is a text
 abbrev pub IsKey : PlainKey → Type 0
 IsKey facts = Unit {0}

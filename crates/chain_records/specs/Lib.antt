@@ -2,6 +2,10 @@ pub mod Pieces
 pub mod Keys
 pub mod Records
 pub mod State
+pub mod Spelled
+pub mod Changes
+pub mod Spelling
+pub mod Order
 pub mod Faults
 pub mod Laws
 pub mod Examples

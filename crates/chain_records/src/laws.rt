@@ -1,6 +1,8 @@
 //! What follows from the definitions. Each function here does nothing: its clauses are laws.
 
-ghost use Rattle.chain_records.specs.Laws.{TellsKeys, TellsRecords, SpellsOnce, IsSpelledOnce, SpellsRecords, SpellsWritten, SpellsRemoved};
+ghost use Rattle.chain_records.specs.Laws.{TellsKeys, TellsRecords, SpellsOnce, IsSpelledOnce, SpellsRecords, SpellsWritten, SpellsRemoved, SpellsChanged, SpellsCode, SpellsFirst, SpellsSome};
+ghost use Rattle.chain_records.specs.Keys.{code, code_info, pin};
+ghost use Rattle.chain_records.specs.Order.{OrdersNumbers, OrdersKinds};
 
 /// Bytes are those of at most one key, so the key that was written is the one that is read.
 pub fn bytes_tell_keys()
@@ -27,4 +29,32 @@ pub fn maps_give_records()
 pub fn one_record_changes()
     ensures written { SpellsWritten }
     ensures removed { SpellsRemoved }
+{}
+
+/// Where several records are written or removed, the state changes there and nowhere else.
+pub fn records_change_together()
+    ensures { SpellsChanged }
+{}
+
+/// A code is its bytes and its info together, and the next code gets the next number.
+pub fn codes_are_stored_whole()
+    ensures { SpellsCode }
+{}
+
+/// The map that has facts and counters alone spells the state that has nothing else.
+pub fn facts_and_counters_begin_a_chain()
+    ensures { SpellsFirst }
+{}
+
+/// A map that nobody wrote record by record, as one that is imported, spells a state exactly where this holds of it.
+pub fn whole_maps_spell_states()
+    ensures { SpellsSome }
+{}
+
+/// Keys of one kind stand in the order of their numbers, and kinds in the order of their first bytes.
+pub fn keys_keep_their_order()
+    ensures codes { OrdersNumbers code }
+    ensures code_infos { OrdersNumbers code_info }
+    ensures pins { OrdersNumbers pin }
+    ensures kinds { OrdersKinds }
 {}

@@ -17,7 +17,9 @@ pub use key::Key;
 pub use key_reading::key_of;
 pub use key_writing::key_bytes;
 pub use laws::{
-    bytes_tell_keys, bytes_tell_records, maps_give_records, maps_tell_states, one_record_changes,
+    bytes_tell_keys, bytes_tell_records, codes_are_stored_whole, facts_and_counters_begin_a_chain,
+    keys_keep_their_order, maps_give_records, maps_tell_states, one_record_changes,
+    records_change_together, whole_maps_spell_states,
 };
 pub use record::{CodeInfo, Contract, Counters, Facts, Stored};
 pub use record_reading::stored_of;

@@ -1,6 +1,5 @@
 -- What holds of the states that some maps of bytes spell.
 use Rattle.chain_records.specs.State.{Bytes, State, Spells}
-use Rattle.bank_ledger.specs.Lawful.{HasLawfulAmounts}
 
 -- of the state that one of the maps spells
 pub record OfSome (S : Bytes → Type 0) (P : State → Type 0) : Type 0 where
@@ -17,7 +16,3 @@ OfEach S P = (map : Bytes) (s : State) → S map → Spells map s → P s
 -- one of the maps spells a state
 abbrev pub HasTyped : (Bytes → Type 0) → Type 0
 HasTyped S = OfSome S (λ s. Unit {0})
-
--- one of the maps spells a state with lawful amounts
-abbrev pub HasLawful : (Bytes → Type 0) → Type 0
-HasLawful S = OfSome S HasLawfulAmounts
