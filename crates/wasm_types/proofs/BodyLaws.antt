@@ -101,7 +101,7 @@ lawful_operands first op shapes.If = lawful_bind lawful_block_type (λ t. lawful
 lawful_operands first op shapes.Else = lawful_done _
 lawful_operands first op shapes.End = lawful_done _
 
-lawful_instr : (first : ℕ) (may_else : Bool) → Lawful Anything (instr first may_else)
+pub lawful_instr : (first : ℕ) (may_else : Bool) → Lawful Anything (instr first may_else)
 unfolding instr
 lawful_instr first may_else = lawful_bind (lawful_opcode may_else) (λ o. lawful_operands first o.0 o.1)
 

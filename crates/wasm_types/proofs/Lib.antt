@@ -6,3 +6,8 @@ pub mod BodyLaws
 pub mod ModuleLaws
 pub mod TextLaws
 pub mod Shaped
+pub mod Bounded
+pub mod Breaking
+pub mod FaultLaws
+pub mod KindLaws
+pub mod InFiles

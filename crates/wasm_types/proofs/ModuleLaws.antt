@@ -55,17 +55,17 @@ lawful_named_bytes : Lawful Nothing named_bytes
 unfolding named_bytes
 lawful_named_bytes = lawful_bind lawful_text (λ _. lawful_join lawful_anything (λ _. lawful_done tt) (λ a text rest b s f. rw s.0 f))
 
-lawful_custom : Lawful Anything custom
+pub lawful_custom : Lawful Anything custom
 unfolding custom
 lawful_custom = lawful_bind (lawful_byte_or Cut (marker 0 Section)) (λ _. lawful_sized lawful_named_bytes)
 
-custom_begins : (text : List ℕ) (u : Unit {0}) (rest : List ℕ) → custom.Spells text u → begins 0 (text ++ rest) ≡ true
+pub custom_begins : (text : List ℕ) (u : Unit {0}) (rest : List ℕ) → custom.Spells text u → begins 0 (text ++ rest) ≡ true
 unfolding custom
 custom_begins text u rest s =
     let whole : text ++ rest ≡ s.first.0 ∷ (s.back ++ rest) = ap (λ (t : List ℕ). t ++ rest) (s.cut ∙ ap (λ (t : List ℕ). t ++ s.back) s.first.1) in
     rw whole (marked 0 s.first.0 (s.back ++ rest) (marker_is 0 Section s.first.0 s.value s.first.2))
 
-custom_some : (text : List ℕ) (u : Unit {0}) → custom.Spells text u → 0 < length text
+pub custom_some : (text : List ℕ) (u : Unit {0}) → custom.Spells text u → 0 < length text
 custom_some text u s = go text (rw (append-nil text) at (custom_begins text u [] s))
   where
     go : (text : List ℕ) → begins 0 text ≡ true → 0 < length text

@@ -24,34 +24,34 @@ use Rattle.wasm_types.proofs.BodyLaws.{instr_some}
 
 -- ---- each value that bytes spell has the property
 
-record Gives {A : Type 0} (Q : A → Type 0) (p : Part A) : Type 0 where
-  each : (text : List ℕ) (a : A) → AreBytes text → p.Spells text a → Q a
+pub record Gives {A : Type 0} (Q : A → Type 0) (p : Part A) : Type 0 where
+  pub each : (text : List ℕ) (a : A) → AreBytes text → p.Spells text a → Q a
 
-abbrev IsByte : ℕ → Type 0
+abbrev pub IsByte : ℕ → Type 0
 IsByte b = b < 256
 
-front_bytes : (front back : List ℕ) → AreBytes (front ++ back) → AreBytes front
+pub front_bytes : (front back : List ℕ) → AreBytes (front ++ back) → AreBytes front
 front_bytes [] back fits = All-nil IsByte
 front_bytes (b ∷ front) back fits = All-cons IsByte b front (All-head IsByte b (front ++ back) fits) (front_bytes front back (All-tail IsByte b (front ++ back) fits))
 
-back_bytes : (front back : List ℕ) → AreBytes (front ++ back) → AreBytes back
+pub back_bytes : (front back : List ℕ) → AreBytes (front ++ back) → AreBytes back
 back_bytes [] back fits = fits
 back_bytes (b ∷ front) back fits = back_bytes front back (All-tail IsByte b (front ++ back) fits)
 
-gives_bind : {A B : Type 0} {Q : A → Type 0} {R : B → Type 0} {p : Part A} {q : A → Part B} → Gives Q p → ((a : A) → Q a → Gives R (q a)) → Gives R (p >>= q)
+pub gives_bind : {A B : Type 0} {Q : A → Type 0} {R : B → Type 0} {p : Part A} {q : A → Part B} → Gives Q p → ((a : A) → Q a → Gives R (q a)) → Gives R (p >>= q)
 gives_bind one two = record {
   each = λ text b fits s.
       let all = subst AreBytes s.cut fits in
       (two s.value (one.each s.front s.value (front_bytes s.front s.back all) s.first)).each s.back b (back_bytes s.front s.back all) s.second;
 }
 
-gives_done : {A : Type 0} {Q : A → Type 0} (a : A) → Q a → Gives Q (done a)
+pub gives_done : {A : Type 0} {Q : A → Type 0} (a : A) → Q a → Gives Q (done a)
 gives_done {A} {Q} a q = record { each = λ text b fits s. subst Q (sym s.1) q }
 
-abbrev Nothing : {A : Type 0} → A → Type 0
+abbrev pub Nothing : {A : Type 0} → A → Type 0
 Nothing a = Unit {0}
 
-any : {A : Type 0} {p : Part A} → Gives Nothing p
+pub any : {A : Type 0} {p : Part A} → Gives Nothing p
 any = record { each = λ text a fits s. tt }
 
 number_below : (bits : ℕ) (text : List ℕ) (n : ℕ) → AreBytes text → IsNumber false bits text n → n < 2 ^ bits
@@ -66,10 +66,10 @@ number_below bits (b ∷ c ∷ text) n fits s =
     let below = more_bits bits s.2 b s.1 high (All-head IsByte b (c ∷ text) fits) s.0 in
     omega (arith, below, s.3, s.0)
 
-abbrev IsWord : ℕ → Type 0
+abbrev pub IsWord : ℕ → Type 0
 IsWord n = n < 2 ^ 32
 
-few_number : Gives IsWord index
+pub few_number : Gives IsWord index
 few_number = record { each = λ text n fits s. number_below 32 text n fits s }
 
 abbrev SoMany : {A : Type 0} → (A → Type 0) → ℕ → List A → Type 0
@@ -88,13 +88,13 @@ gives_times {A} {Q} {p} one n = record { each = λ text items fits s. go n text 
         let rest = go n t.front t.value (front_bytes t.front t.back back) t.first in
         subst (SoMany Q (suc n)) (sym t.second.1) (ap suc rest.0, All-cons Q s.value t.value q rest.1)
 
-abbrev Few : {A : Type 0} → (A → Type 0) → List A → Type 0
+abbrev pub Few : {A : Type 0} → (A → Type 0) → List A → Type 0
 Few Q items = AreFew items × All Q items
 
 few_items : {A : Type 0} (items : List A) (n : ℕ) → n < 2 ^ 32 → length items ≡ n → AreFew items
 few_items items n lt e = omega (arith, lt, e)
 
-gives_vector : {A : Type 0} {Q : A → Type 0} {p : Part A} → Gives Q p → Gives (Few Q) (vector p)
+pub gives_vector : {A : Type 0} {Q : A → Type 0} {p : Part A} → Gives Q p → Gives (Few Q) (vector p)
 gives_vector {A} {Q} {p} one = gives_bind few_number (λ n lt. record {
   each = λ text items fits s.
       let all = (gives_times one n).each text items fits s in
@@ -102,7 +102,7 @@ gives_vector {A} {Q} {p} one = gives_bind few_number (λ n lt. record {
 })
 
 -- a part behind its length, which is that of a text of fewer than 2^32 bytes
-gives_sized : {A : Type 0} {Q : A → Type 0} (p : Part A) → ((text : List ℕ) (a : A) → AreBytes text → AreFew text → p.Spells text a → Q a) → Gives Q (sized p)
+pub gives_sized : {A : Type 0} {Q : A → Type 0} (p : Part A) → ((text : List ℕ) (a : A) → AreBytes text → AreFew text → p.Spells text a → Q a) → Gives Q (sized p)
 gives_sized {A} {Q} p one = record {
   each = λ text a fits s.
       let all = subst AreBytes s.cut fits in
@@ -114,7 +114,7 @@ gives_numbered : {A : Type 0} {Q : A → Type 0} {p : Part A} (k : ℕ) → Give
 gives_numbered {A} {Q} {p} k one =
     gives_bind (any {p = byte (marker k Section)}) (λ _ _. gives_bind (gives_sized (vector p) (λ text items fits short s. (gives_vector one).each text items fits s)) (λ items q. gives_bind (any {p = customs}) (λ _ _. gives_done items q)))
 
-gives_section : {A : Type 0} {Q : A → Type 0} {p : Part A} (k : ℕ) → Gives Q p → Gives (Few Q) (section k (vector p))
+pub gives_section : {A : Type 0} {Q : A → Type 0} {p : Part A} (k : ℕ) → Gives Q p → Gives (Few Q) (section k (vector p))
 gives_section {A} {Q} {p} k one = record { each = go }
   where
     go : (text : List ℕ) (items : List A) → AreBytes text → (section k (vector p)).Spells text items → Few Q items

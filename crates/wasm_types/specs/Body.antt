@@ -1,5 +1,5 @@
 -- The code of a function (core 1.0, sections 5.4 and 5.5.13): its locals, and instructions up to the `end` that closes it.
-use Rattle.std.specs.Prelude.{◌≡◌, ℕ, zero, suc, ◌+◌, ◌==◌, nat_le, if◌then◌else◌, Bool, true, false, List, [], ◌∷◌, ◌++◌, length, replicate, Option, Some, None, Result, Ok, Err}
+use Rattle.std.specs.Prelude.{◌≡◌, ℕ, zero, suc, ◌+◌, ◌<◌, ◌⊎◌, ◌==◌, nat_le, if◌then◌else◌, Bool, true, false, List, [], ◌∷◌, ◌++◌, length, replicate, Option, Some, None, Result, Ok, Err}
 use Rattle.wasm_types.specs.declared.kind.ReadKind.{ReadKind}
 use Rattle.wasm_types.specs.declared.kind.ReadKind.TheVariants.{Reserved, Nesting, Locals}
 use Rattle.wasm_types.specs.declared.value.ValType.{ValType}
@@ -9,9 +9,9 @@ use Rattle.wasm_types.specs.declared.opcode.Shape.TheVariants as shapes
 use Rattle.wasm_types.specs.declared.instr.Instr.{Instr}
 use Rattle.wasm_types.specs.declared.instr.Instr.TheVariants.{Op, Index, CallIndirect, BrTable, Mem, Const, Block, Loop, If, Else, End}
 use Rattle.wasm_types.specs.Plain.{PlainCode}
-use Rattle.wasm_types.specs.Place.{Place, Reading, then_read, breaks}
+use Rattle.wasm_types.specs.Place.{Place, Broken, Reading, then_read, breaks}
 use Rattle.wasm_types.specs.Opcodes.{shape}
-use Rattle.wasm_types.specs.Part.{Part, Joins, done, ◌>>=◌, judged, byte, byte_or, marker, number, index, vector}
+use Rattle.wasm_types.specs.Part.{Part, Joins, BreaksBehind, done, ◌>>=◌, judged, byte, byte_or, marker, number, index, vector}
 use Rattle.wasm_types.specs.Types.{val_type, val_type_of}
 
 -- ---- locals, in groups of one type
@@ -36,8 +36,12 @@ groups_read zero before start = Ok ([], start)
 groups_read (suc groups) before start =
     then_read ((group before).read start) (λ own after. then_read (groups_read groups (before + length own) after) (λ others end. Ok (own ++ others, end)))
 
+-- one of so many groups, behind those before it, which are read
+abbrev pub BreaksInGroups : ℕ → Place → Broken → Type 0
+BreaksInGroups groups start fault = (before : ℕ) × (before < groups) × BreaksBehind (groups_read before 0 start) (λ types here. (group (length types)).BreaksAt here fault)
+
 abbrev pub groups_of : ℕ → Part (List ValType)
-groups_of groups = record { Spells = AreGroups groups 0; read = groups_read groups 0 }
+groups_of groups = record { Spells = AreGroups groups 0; read = groups_read groups 0; BreaksAt = BreaksInGroups groups }
 
 unfoldable pub locals : Part (List ValType)
 locals = do
@@ -153,9 +157,20 @@ body_read zero (o ∷ blocks) first start = breaks start.at Nesting
 body_read (suc steps) (o ∷ blocks) first start =
     then_read ((instr first o).read start) (λ x after. with_front x.0 x.1 (body_read steps (blocks_after x.0 (o ∷ blocks)) (first + length x.1) after))
 
+-- so many instructions are read, and the next one can't be; some block is open there
+abbrev pub BreaksAfter : ℕ → List Bool → ℕ → Place → Broken → Type 0
+BreaksAfter n [] first start fault = ⊥
+BreaksAfter zero (o ∷ blocks) first start fault = (instr first o).BreaksAt start fault
+BreaksAfter (suc n) (o ∷ blocks) first start fault =
+    BreaksBehind ((instr first o).read start) (λ x after. BreaksAfter n (blocks_after x.0 (o ∷ blocks)) (first + length x.1) after fault)
+
 -- the instructions of a body and its targets; the body itself is the first block
 abbrev pub body : Part (List Instr × List ℕ)
-body = record { Spells = λ text b. IsBody (false ∷ []) 0 text b.0 b.1; read = λ start. body_read (length start.rest) (false ∷ []) 0 start }
+body = record {
+  Spells = λ text b. IsBody (false ∷ []) 0 text b.0 b.1;
+  read = λ start. body_read (length start.rest) (false ∷ []) 0 start;
+  BreaksAt = λ start fault. (n : ℕ) × BreaksAfter n (false ∷ []) 0 start fault;
+}
 
 -- ---- the places of `else` and `end`
 

@@ -1,10 +1,15 @@
--- What the definitions say of small inputs: numbers, and where bytes behind the header break first.
-use Rattle.std.specs.Prelude.{◌≡◌, true, false, [], ◌∷◌, ◌++◌, Some, None, refl}
-use Rattle.wasm_types.specs.declared.kind.ReadKind.TheVariants.{Cut, Magic, Section, Start, Size, Float}
+-- What the definitions say of small inputs: numbers, and where bytes behind the header break first, for each of the 18 kinds.
+use lib.Utf8.{encode}
+use Rattle.std.specs.Str.{is_utf8, chars}
+use Rattle.std.specs.Prelude.{◌≡◌, ℕ, true, false, List, [], ◌∷◌, ◌++◌, Option, Some, None, refl}
+use Rattle.wasm_types.specs.declared.kind.ReadKind.{ReadKind}
+use Rattle.wasm_types.specs.declared.kind.ReadKind.TheVariants.{Cut, Magic, Leb, Section, Start, Size, Name, Form, ValueType, Float, Results, Kind, Flag, Reserved, Opcode, Nesting, Locals, Count}
+use Rattle.wasm_types.specs.Place.{Broken}
+use Rattle.wasm_types.specs.Opcodes.{shape}
 use Rattle.wasm_types.specs.Number.{number_at, is_cut_number, number_read}
 use Rattle.wasm_types.specs.ModuleText.{header, broken, module_of, module_part}
-use Rattle.wasm_types.specs.Types.{func_type, val_type}
-use Rattle.wasm_types.specs.Body.{closings, placed}
+use Rattle.wasm_types.specs.Types.{text, func_type, val_type, result_type, import_, desc, flag, limits}
+use Rattle.wasm_types.specs.Body.{group, groups_read, locals, opcode, reserved, instr, body_read, code, closings, placed}
 use Rattle.wasm_types.specs.declared.instr.Instr.TheVariants.{Block, If, Else, End}
 use Rattle.wasm_types.specs.Part as part
 use Rattle.wasm_types.specs.ModuleText as modules
@@ -76,6 +81,62 @@ header_alone = refl
 no_bytes : broken [] ≡ Some (record { at = 0; kind = Cut })
 unfolding module_part part.word_read
 no_bytes = refl
+
+-- these bytes behind the header break at this place, with this kind
+abbrev pub BehindHeader : List ℕ → ℕ → ReadKind → Type 0
+BehindHeader bytes at kind = broken (header ++ bytes) ≡ Some (record { at = at; kind = kind })
+
+pub record EachKind : Type 0 where
+  pub cut : BehindHeader (0x01 ∷ 1 ∷ 0x80 ∷ []) 10 Cut
+  pub magic : broken (0 ∷ 0x61 ∷ 0x73 ∷ 0x6D ∷ 2 ∷ 0 ∷ 0 ∷ 0 ∷ []) ≡ Some (record { at = 0; kind = Magic })
+  -- a length with bits that don't count
+  pub leb : BehindHeader (0x01 ∷ 0xFF ∷ 0xFF ∷ 0xFF ∷ 0xFF ∷ 0x1F ∷ []) 9 Leb
+  -- the section of types twice
+  pub section : BehindHeader (0x01 ∷ 1 ∷ 0 ∷ 0x01 ∷ 1 ∷ 0 ∷ []) 11 Section
+  pub start : BehindHeader (0x08 ∷ 1 ∷ 0 ∷ []) 8 Start
+  pub size : BehindHeader (0x01 ∷ 2 ∷ 0 ∷ 0 ∷ []) 11 Size
+  -- an import of a module whose name is FF
+  pub name : BehindHeader (0x02 ∷ 3 ∷ 1 ∷ 1 ∷ 0xFF ∷ []) 12 Name
+  pub form : BehindHeader (0x01 ∷ 2 ∷ 1 ∷ 0x61 ∷ []) 11 Form
+  pub val_type : BehindHeader (0x01 ∷ 4 ∷ 1 ∷ 0x60 ∷ 1 ∷ 0x7B ∷ []) 13 ValueType
+  pub float : BehindHeader (0x01 ∷ 4 ∷ 1 ∷ 0x60 ∷ 1 ∷ 0x7C ∷ []) 13 Float
+  pub results : BehindHeader (0x01 ∷ 4 ∷ 1 ∷ 0x60 ∷ 0 ∷ 2 ∷ []) 13 Results
+  pub sort : BehindHeader (0x02 ∷ 4 ∷ 1 ∷ 0 ∷ 0 ∷ 4 ∷ []) 13 Kind
+  pub flag : BehindHeader (0x05 ∷ 2 ∷ 1 ∷ 2 ∷ []) 11 Flag
+  -- memory.size with a byte 01
+  pub reserved : BehindHeader (0x0A ∷ 6 ∷ 1 ∷ 4 ∷ 0 ∷ 0x3F ∷ 1 ∷ 0x0B ∷ []) 14 Reserved
+  pub opcode : BehindHeader (0x0A ∷ 5 ∷ 1 ∷ 3 ∷ 0 ∷ 0xFF ∷ 0x0B ∷ []) 13 Opcode
+  -- an `else` without `if`, and a body without its `end`
+  pub other : BehindHeader (0x0A ∷ 5 ∷ 1 ∷ 3 ∷ 0 ∷ 0x05 ∷ 0x0B ∷ []) 13 Nesting
+  pub no_end : BehindHeader (0x0A ∷ 4 ∷ 1 ∷ 2 ∷ 0 ∷ 0x01 ∷ []) 14 Nesting
+  -- a group of 4,097 locals
+  pub locals : BehindHeader (0x0A ∷ 7 ∷ 1 ∷ 5 ∷ 1 ∷ 0x81 ∷ 0x20 ∷ 0x7F ∷ 0x0B ∷ []) 13 Locals
+  -- a function without a code
+  pub count : BehindHeader (0x03 ∷ 2 ∷ 1 ∷ 0 ∷ []) 12 Count
+
+each_kind : EachKind
+unfolding is_utf8 chars encode module_part part.word_read modules.customs_read modules.section_read modules.end_read part.next_read part.sized_read part.length_read part.part_read part.used_up_read number_read number_at is_cut_number part.times_read text func_type val_type result_type import_ desc flag limits code locals group groups_read body_read instr opcode reserved shape
+each_kind = record {
+  cut = refl;
+  magic = refl;
+  leb = refl;
+  section = refl;
+  start = refl;
+  size = refl;
+  name = refl;
+  form = refl;
+  val_type = refl;
+  float = refl;
+  results = refl;
+  sort = refl;
+  flag = refl;
+  reserved = refl;
+  opcode = refl;
+  other = refl;
+  no_end = refl;
+  locals = refl;
+  count = refl;
+}
 
 -- a block around an `if` with an `else`, and the end of the body
 nested_blocks : placed 0 (Block None 0 ∷ If None None 0 ∷ Else 0 ∷ End ∷ End ∷ End ∷ []) ≡ Block None 4 ∷ If None (Some 2) 3 ∷ Else 3 ∷ End ∷ End ∷ End ∷ []

@@ -14,3 +14,5 @@ pub mod Validity
 pub mod Interface
 pub mod Gate
 pub mod Laws
+pub mod Bounds
+pub mod Faults

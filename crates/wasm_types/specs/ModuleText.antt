@@ -1,9 +1,9 @@
 -- Which bytes are which module (core 1.0, section 5.5), and where bytes that are none break first.
-use Rattle.std.specs.Prelude.{◌≡◌, ℕ, zero, suc, ◌<◌, ◌==◌, if◌then◌else◌, Bool, true, false, List, [], ◌∷◌, length, All, Option, Some, None, Ok, Err, ◌⊎◌}
+use Rattle.std.specs.Prelude.{◌≡◌, ◌≢◌, ℕ, zero, suc, ◌<◌, ◌==◌, if◌then◌else◌, Bool, true, false, List, [], ◌∷◌, length, All, Option, Some, None, Ok, Err, ◌⊎◌}
 use Rattle.wasm_types.specs.declared.kind.ReadKind.TheVariants.{Magic, Section, Start, Count}
 use Rattle.wasm_types.specs.Plain.{PlainModule}
 use Rattle.wasm_types.specs.Place.{Place, Broken, Reading, then_read, breaks}
-use Rattle.wasm_types.specs.Part.{Part, Joins, done, ◌>>=◌, byte, marker, index, exactly, anything, vector, sized, sized_read}
+use Rattle.wasm_types.specs.Part.{Part, Joins, BreaksBehind, IsFault, done, ◌>>=◌, byte, marker, index, exactly, anything, vector, sized, sized_read}
 use Rattle.wasm_types.specs.Types.{text, func_type, import_, table, limits, global, export_, elem, seg}
 use Rattle.wasm_types.specs.Body.{code}
 
@@ -37,9 +37,18 @@ customs_read zero start = Ok (tt, start)
 customs_read (suc steps) start =
     if begins 0 start.rest then then_read (custom.read start) (λ _ after. customs_read steps after) else Ok (tt, start)
 
+-- so many are read, and the next one, which begins as one, can't be
+abbrev pub BreaksAfterCustoms : ℕ → Place → Broken → Type 0
+BreaksAfterCustoms zero start fault = (begins 0 start.rest ≡ true) × custom.BreaksAt start fault
+BreaksAfterCustoms (suc n) start fault = BreaksBehind (custom.read start) (λ _ after. BreaksAfterCustoms n after fault)
+
 -- those that stand next to one another here, all of them
 abbrev pub customs : Part (Unit {0})
-customs = record { Spells = λ bytes _. (n : ℕ) × AreCustoms n bytes; read = λ start. customs_read (length start.rest) start }
+customs = record {
+  Spells = λ bytes _. (n : ℕ) × AreCustoms n bytes;
+  read = λ start. customs_read (length start.rest) start;
+  BreaksAt = λ start fault. (n : ℕ) × BreaksAfterCustoms n start fault;
+}
 
 -- ---- sections, each at most once and in the order of their numbers
 
@@ -62,6 +71,7 @@ abbrev pub section : {A : Type 0} → ℕ → Part (List A) → Part (List A)
 section k p = record {
   Spells = λ bytes items. ((bytes ≡ []) × (items ≡ [])) ⊎ (numbered k p).Spells bytes items;
   read = section_read k p.read;
+  BreaksAt = λ start fault. (begins k start.rest ≡ true) × (numbered k p).BreaksAt start fault;
 }
 
 -- the end of the input, which may come where the functions are as many as the codes
@@ -72,8 +82,17 @@ end_from funcs codes at (b ∷ bytes) = breaks at (if b == 8 then Start else Sec
 unfoldable pub end_read : ℕ → ℕ → Place → Reading (Unit {0})
 end_read funcs codes start = end_from funcs codes start.at start.rest
 
+-- at the end of the input the numbers differ; before it stands a section that is unknown, repeated, out of order, or a start section
+abbrev pub IsNoEnd : ℕ → ℕ → ℕ → List ℕ → Broken → Type 0
+IsNoEnd funcs codes at [] fault = (funcs ≢ codes) × IsFault at Count fault
+IsNoEnd funcs codes at (b ∷ bytes) fault = ((b ≡ 8) × IsFault at Start fault) ⊎ ((b ≢ 8) × IsFault at Section fault)
+
 abbrev pub input_end : ℕ → ℕ → Part (Unit {0})
-input_end funcs codes = record { Spells = λ bytes _. (bytes ≡ []) × (funcs ≡ codes); read = end_read funcs codes }
+input_end funcs codes = record {
+  Spells = λ bytes _. (bytes ≡ []) × (funcs ≡ codes);
+  read = end_read funcs codes;
+  BreaksAt = λ start fault. IsNoEnd funcs codes start.at start.rest fault;
+}
 
 unfoldable pub module_part : Part PlainModule
 module_part = do
@@ -129,6 +148,10 @@ broken_in (Err e) = Some e
 -- the module that the bytes spell, if they spell one
 abbrev pub module_of : List ℕ → Option PlainModule
 module_of bytes = module_in (reading_of bytes)
+
+-- the first part that can't be read, from the front of the bytes, stands here, and this is why
+abbrev pub BreaksThere : List ℕ → Broken → Type 0
+BreaksThere bytes fault = module_part.BreaksAt (record { at = 0; rest = bytes }) fault
 
 -- where the bytes break, and why, if they spell none
 abbrev pub broken : List ℕ → Option Broken

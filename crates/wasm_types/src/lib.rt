@@ -24,10 +24,13 @@ pub use global::{GlobalVar, Init};
 pub use import::{Desc, Import};
 pub use instr::Instr;
 pub use kind::{ReadKind, ValidKind};
-pub use laws::{bytes_spell_or_break, faults_come_in_order, spelled_are_shaped};
+pub use laws::{
+    bytes_spell_or_break, faults_are_of_the_first_part, faults_come_in_order,
+    faults_have_their_kinds, spelled_are_bounded, spelled_are_shaped,
+};
 pub use leb::{Leb, is_cut, read_s32, read_s64, read_u32};
 pub use limits::Limits;
-pub use module::{Code, Module};
+pub use module::{Code, HEADER, Module};
 pub use opcode::{ConstOp, Shape, const_op_of, shape_of};
 pub use refusal::GateRefusal;
 pub use segment::{Elem, Seg};

@@ -7,6 +7,9 @@ use crate::limits::Limits;
 use crate::segment::{Elem, Seg};
 use crate::value::ValType;
 
+/// What the bytes of every module begin with: its magic number and the version of the format.
+pub const HEADER: [u8; 8] = [0x00, 0x61, 0x73, 0x6D, 0x01, 0x00, 0x00, 0x00];
+
 /// The code of a function: its declared locals, without the parameters, and its body with the last `End`.
 #[derive(Debug, Drop, PartialEq, Eq)]
 pub struct Code {
