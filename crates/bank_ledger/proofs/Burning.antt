@@ -10,9 +10,10 @@ use Rattle.std.specs.FinMap as finite
 use Rattle.std.proofs.lemmas.Map.Lookups.{exact_bytes}
 use Rattle.coin_amounts.specs.Plain.{Coin}
 use Rattle.chain_records.specs.State.{Addressed, State}
+use Rattle.chain_records.specs.Keys.{IsAddress}
 use Rattle.bank_ledger.specs.Balances.{amount_in, lowered, shortfall}
 use Rattle.bank_ledger.specs.Accounts.{balance, supply, total}
-use Rattle.bank_ledger.specs.Lawful.{IsAddress, HasLawfulAmounts}
+use Rattle.bank_ledger.specs.Lawful.{HasLawfulAmounts}
 use Rattle.bank_ledger.specs.Effects.{IsBurned}
 use Rattle.bank_ledger.specs.Steps.{taken, one_burned, CanBurn}
 use Rattle.bank_ledger.proofs.Orders.{addressed_total, addressed_exact}

@@ -1,11 +1,11 @@
 -- What adding an amount to an account and to the supply does to the state.
 use Rattle.std.proofs.Common.{◌≡◌, ℕ, ◌+◌, ◌<◌, ◌≤◌, ◌^◌, List, refl, sym, subst, arith}
 use Rattle.coin_amounts.specs.Denom.{IsDenom}
-use Rattle.chain_records.specs.Keys.{PlainKey}
+use Rattle.chain_records.specs.Keys.{PlainKey, IsAddress}
 use Rattle.chain_records.specs.Keys as keys
 use Rattle.chain_records.specs.State.{Bytes, State, Spells}
 use Rattle.bank_ledger.specs.Accounts.{balance, supply}
-use Rattle.bank_ledger.specs.Lawful.{IsAddress, HasLawfulAmounts}
+use Rattle.bank_ledger.specs.Lawful.{HasLawfulAmounts}
 use Rattle.bank_ledger.specs.Minted.{minted, IsMinted}
 use Rattle.bank_ledger.specs.Steps.{with_amount, with_more}
 use Rattle.bank_ledger.proofs.Changed.{balance_below, balance_more, supply_more}

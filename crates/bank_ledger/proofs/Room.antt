@@ -10,9 +10,8 @@ use Rattle.std.specs.Ordering.{nat_cmp, is_le, ordering_then, MatchOrdering}
 use Rattle.std.specs.Cmp.{ranked}
 use Rattle.std.specs.Cmp.Lexicographic.{slice_cmp}
 use Rattle.coin_amounts.specs.Denom.{is_denom_byte, IsDenom}
-use Rattle.chain_records.specs.Keys.{key_bytes}
+use Rattle.chain_records.specs.Keys.{key_bytes, IsAddress}
 use Rattle.chain_records.specs.Keys as keys
-use Rattle.bank_ledger.specs.Lawful.{IsAddress}
 use Rattle.bank_ledger.proofs.Places.{front, place_of, cmp-prefix, denom_short}
 use Rattle.bank_ledger.proofs.Holding.{next_later}
 

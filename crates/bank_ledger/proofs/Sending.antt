@@ -12,9 +12,10 @@ use Rattle.std.proofs.lemmas.List.Sums.{sum_by-cons}
 use Rattle.std.proofs.lemmas.Slice.Eq.{bytes_eq-Decides}
 use Rattle.coin_amounts.specs.Plain.{Coin}
 use Rattle.chain_records.specs.State.{Addressed, addressed_cmp, State}
+use Rattle.chain_records.specs.Keys.{IsAddress}
 use Rattle.bank_ledger.specs.Balances.{amount_in, part, share, moved, shortfall}
 use Rattle.bank_ledger.specs.Accounts.{balance, total, accounts_with}
-use Rattle.bank_ledger.specs.Lawful.{IsAddress, HasLawfulAmounts}
+use Rattle.bank_ledger.specs.Lawful.{HasLawfulAmounts}
 use Rattle.bank_ledger.specs.Effects.{IsSent}
 use Rattle.bank_ledger.specs.Steps.{taken, one_sent, CanSend}
 use Rattle.bank_ledger.proofs.Orders.{addressed_total, addressed_exact, same_account}

@@ -1,10 +1,9 @@
--- What the calls of the bank do to layers, for each map that these stand for and the state with lawful amounts that it spells.
+-- What the calls of the bank do to a state with lawful amounts, and what their stops tell.
 use Rattle.std.specs.Prelude.{ℕ, ◌≡◌, ◌-◌, List, Option, None, Some, string_bytes}
 use Rattle.coin_amounts.specs.Plain.{Coin}
-use Rattle.chain_records.specs.State.{Bytes, State, Spells}
+use Rattle.chain_records.specs.State.{Bytes, State}
 use Rattle.kv_layers.specs.declared.layers.Layers.{Layers}
-use Rattle.kv_layers.specs.Layers.{Stands, Turns}
-use Rattle.kv_layers.specs.Maps.{Maps, changed}
+use Rattle.kv_layers.specs.Layers.{Turns}
 use Rattle.bank_ledger.specs.declared.stop.BankStop.{BankStop}
 use Rattle.bank_ledger.specs.declared.stop.BankStop.TheVariants.{NotEnough, NoMemory}
 use Rattle.bank_ledger.specs.Balances.{amount_in, moved, lowered, Shortfall, shortfall}
@@ -28,18 +27,16 @@ pub record IsBurned (s : State) (from : List ℕ) (coins : List Coin) (t : State
   pub totals : (denom : List ℕ) → total t denom ≡ total s denom - amount_in coins denom
   pub lawful : HasLawfulAmounts t
 
--- the layers stand for a map that spells another state, to which the relation leads from the earlier one
-abbrev pub Becomes : {B : Type 0} → (B → Bytes → Type 0) → Layers B → Layers B → (State → State → Type 0) → Type 0
-Becomes S old new Step =
-    (maps : Maps) (s : State) → Stands S old maps → Spells maps.current s → HasLawfulAmounts s
-    → (map : Bytes) × (t : State) × Stands S new (changed maps map) × Spells map t × Step s t
-
 -- the stop is that of a shortfall; want of memory says nothing
 abbrev pub IsStop : BankStop → Option Shortfall → Type 0
 IsStop (NotEnough denom have want) short = short ≡ Some (record { denom = string_bytes denom; have = have; want = want })
 IsStop NoMemory short = Unit {0}
 
+-- of an answer, unless memory ran out
+abbrev pub UnlessNoMemory : BankStop → Type 0 → Type 0
+UnlessNoMemory (NotEnough denom have want) P = P
+UnlessNoMemory NoMemory P = Unit {0}
+
 -- nothing is changed, unless memory ran out
 abbrev pub Leaves : {B : Type 0} → (B → Bytes → Type 0) → Layers B → Layers B → BankStop → Type 0
-Leaves S old new (NotEnough denom have want) = Turns S old new (λ maps. maps)
-Leaves S old new NoMemory = Unit {0}
+Leaves S old new stop = UnlessNoMemory stop (Turns S old new (λ maps. maps))

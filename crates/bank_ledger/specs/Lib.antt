@@ -1,7 +1,6 @@
 pub mod Balances
 pub mod Accounts
 pub mod Lawful
-pub mod Spelled
 pub mod Effects
 pub mod Steps
 pub mod Minted

@@ -1,26 +1,17 @@
 -- The state of a chain that begins, and amounts that are added to it.
 use Rattle.std.specs.Prelude.{ℕ, ◌≡◌, ◌+◌, ◌<◌, ◌^◌, List, if◌then◌else◌}
 use Rattle.std.specs.Str.{bytes_eq}
-use Rattle.std.specs.FinMap.{empty}
 use Rattle.chain_records.specs.Keys as keys
 use Rattle.chain_records.specs.Records.{PlainFacts}
 use Rattle.chain_records.specs.State.{Bytes, State, Spells}
+use Rattle.chain_records.specs.Changes.{bare}
 use Rattle.bank_ledger.specs.Accounts.{balance, supply}
 use Rattle.bank_ledger.specs.Lawful.{HasLawfulAmounts}
 use Rattle.bank_ledger.specs.Steps.{with_more}
 
 -- a chain with these facts and nothing else; the first code and the first instance get the number 1
 abbrev pub opening : PlainFacts → State
-opening f = record {
-  facts = f;
-  counters = record { next_code = 1; next_instance = 1 };
-  balances = empty;
-  supplies = empty;
-  codes = empty;
-  pins = empty;
-  contracts = empty;
-  storage = empty;
-}
+opening f = bare f (record { next_code = 1; next_instance = 1 })
 
 -- what an account has and the supply are higher by an amount
 abbrev pub minted : State → List ℕ → List ℕ → ℕ → State

@@ -11,10 +11,7 @@ use Rattle.coin_amounts.specs.Denom.{IsDenom}
 use Rattle.chain_records.specs.Keys.{PlainKey, IsKey, key_bytes, IsKeyOf}
 use Rattle.chain_records.specs.Keys as keys
 use Rattle.chain_records.specs.Records.{amount, IsRecordUnder}
-use Rattle.chain_records.specs.State.{Bytes, State, Spells}
-use Rattle.kv_layers.specs.declared.layers.Layers.{Layers}
-use Rattle.kv_layers.specs.Layers.{Stands}
-use Rattle.kv_layers.specs.Maps.{Maps, changed}
+use Rattle.chain_records.specs.State.{State}
 use Rattle.bank_ledger.specs.Accounts.{balance, supply}
 
 -- a key of a balance or of a supply
@@ -59,12 +56,6 @@ drained s coin = with_less s (keys.supply coin.denom) coin.amount
 
 abbrev pub one_burned : State → List ℕ → Coin → State
 one_burned s from coin = drained (taken s from coin) coin
-
--- the layers stand for a map that spells the other state
-abbrev pub Writes : {B : Type 0} → (B → Bytes → Type 0) → Layers B → Layers B → (State → State) → Type 0
-Writes S old new step =
-    (maps : Maps) (s : State) → Stands S old maps → Spells maps.current s
-    → (map : Bytes) × Stands S new (changed maps map) × Spells map (step s)
 
 -- the account has the coin, and the other has room for it then
 abbrev pub CanSend : List ℕ → List ℕ → Coin → State → Type 0

@@ -4,8 +4,10 @@ ghost use Rattle.std.specs.Prelude.{◌≡◌, ℕ, ◌+◌, ◌<◌, ◌≤◌,
 ghost use Rattle.chain_records.specs.Keys.{plain_key};
 ghost use Rattle.chain_records.specs.Records.{plain_stored, amount, IsRecordUnder};
 ghost use Rattle.kv_layers.specs.Layers.{depth, HasCurrent};
-ghost use Rattle.bank_ledger.specs.Spelled.{OfSome, OfEach, HasTyped};
-ghost use Rattle.bank_ledger.specs.Steps.{IsAmountKey, amount_under, with_amount, with_less, with_more, Writes};
+ghost use Rattle.chain_records.specs.Spelled.{OfSome, OfEach, HasTyped};
+ghost use Rattle.kv_layers.specs.Spelling.{Writes};
+ghost use Rattle.chain_records.specs.State.{Spells};
+ghost use Rattle.bank_ledger.specs.Steps.{IsAmountKey, amount_under, with_amount, with_less, with_more};
 
 use chain_records::{
     Key, RecordFault, Stored, bytes_tell_records, key_bytes, maps_give_records, one_record_changes,
@@ -62,7 +64,7 @@ fn set_amount<B: Base>(
     amount: u128,
 ) -> Result<(), AllocError>
     requires { IsAmountKey (plain_key key.now) }
-    ensures ok { OnOk result (Writes B.stands_for layers.old layers.new
+    ensures ok { OnOk result (Writes Spells B.stands_for layers.old layers.new
         (λ s. with_amount s (plain_key key.now) amount)) }
     ensures depth { depth layers.new ≡ depth layers.old }
 {
@@ -87,7 +89,7 @@ pub(crate) fn lower<B: Base>(
     requires key { IsAmountKey (plain_key key.now) }
     requires enough { OfSome (HasCurrent B.stands_for layers.old)
         (λ s. amount ≤ amount_under s (plain_key key.now)) }
-    ensures ok { OnOk result (Writes B.stands_for layers.old layers.new
+    ensures ok { OnOk result (Writes Spells B.stands_for layers.old layers.new
         (λ s. with_less s (plain_key key.now) amount)) }
     ensures depth { depth layers.new ≡ depth layers.old }
 {
@@ -106,7 +108,7 @@ pub(crate) fn raise<B: Base>(
     requires key { IsAmountKey (plain_key key.now) }
     requires room { OfSome (HasCurrent B.stands_for layers.old)
         (λ s. amount_under s (plain_key key.now) + amount < 2 ^ 128) }
-    ensures ok { OnOk result (Writes B.stands_for layers.old layers.new
+    ensures ok { OnOk result (Writes Spells B.stands_for layers.old layers.new
         (λ s. with_more s (plain_key key.now) amount)) }
     ensures depth { depth layers.new ≡ depth layers.old }
 {

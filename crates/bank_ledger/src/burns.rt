@@ -2,12 +2,15 @@ ghost use Rattle.std.specs.Prelude.{◌≡◌, ◌≤◌, OnOk, IfErr};
 ghost use Rattle.coin_amounts.specs.Plain.{coin_view};
 ghost use Rattle.coin_amounts.specs.Coins.{coins_view};
 ghost use Rattle.kv_layers.specs.Layers.{depth, HasCurrent};
+ghost use Rattle.chain_records.specs.Keys.{IsAddress};
+ghost use Rattle.chain_records.specs.Spelled.{OfSome, OfEach};
+ghost use Rattle.kv_layers.specs.Spelling.{Becomes, Writes};
+ghost use Rattle.chain_records.specs.State.{Spells};
+ghost use Rattle.bank_ledger.specs.Lawful.{HasLawful, HasLawfulAmounts};
 ghost use Rattle.bank_ledger.specs.Balances.{shortfall};
 ghost use Rattle.bank_ledger.specs.Accounts.{balance};
-ghost use Rattle.bank_ledger.specs.Lawful.{IsAddress};
-ghost use Rattle.bank_ledger.specs.Spelled.{OfSome, OfEach, HasLawful};
-ghost use Rattle.bank_ledger.specs.Effects.{Becomes, IsBurned, IsStop, Leaves};
-ghost use Rattle.bank_ledger.specs.Steps.{one_burned, Writes, CanBurn};
+ghost use Rattle.bank_ledger.specs.Effects.{IsBurned, IsStop, Leaves, UnlessNoMemory};
+ghost use Rattle.bank_ledger.specs.Steps.{one_burned, CanBurn};
 
 use crate::amounts::lower;
 use crate::keys::{balance_key, supply_key};
@@ -26,17 +29,17 @@ pub fn burn<B: Base>(
 ) -> Result<(), BankStop>
     requires from { IsAddress from.now }
     requires lawful { HasLawful (HasCurrent B.stands_for layers.old) }
-    ensures burned { OnOk result (Becomes B.stands_for layers.old layers.new
+    ensures burned { OnOk result (Becomes Spells HasLawfulAmounts B.stands_for layers.old layers.new
         (λ s t. IsBurned s from.now (coins_view coins.now) t)) }
     ensures stop { IfErr result (λ stop. OfEach (HasCurrent B.stands_for layers.old)
         (λ s. IsStop stop (shortfall (balance s) from.now (coins_view coins.now)))) }
+    ensures lawful { OnOk result (HasLawful (HasCurrent B.stands_for layers.new)) }
+    ensures still_lawful { IfErr result (λ stop. UnlessNoMemory stop
+        (HasLawful (HasCurrent B.stands_for layers.new))) }
     ensures unchanged { IfErr result (Leaves B.stands_for layers.old layers.new) }
     ensures depth { depth layers.new ≡ depth layers.old }
 {
-    match check(alloc, &*layers, from, coins) {
-        Ok(()) => {}
-        Err(stop) => return Err(stop),
-    }
+    check(alloc, &*layers, from, coins)?;
     for coin in &coins.list {
         burn_coin(alloc, layers, from, coin)?;
     }
@@ -53,7 +56,7 @@ fn burn_coin<B: Base>(
     requires from { IsAddress from.now }
     requires can { OfSome (HasCurrent B.stands_for layers.old)
         (CanBurn from.now (coin_view coin.now)) }
-    ensures ok { OnOk result (Writes B.stands_for layers.old layers.new
+    ensures ok { OnOk result (Writes Spells B.stands_for layers.old layers.new
         (λ s. one_burned s from.now (coin_view coin.now))) }
     ensures depth { depth layers.new ≡ depth layers.old }
 {

@@ -4,11 +4,11 @@ ghost use Rattle.std.specs.Prelude.{◌≡◌, List, ℕ, IfOk, option_map, stri
 ghost use Rattle.coin_amounts.specs.Plain.{coin_view};
 ghost use Rattle.coin_amounts.specs.Plain as plain;
 ghost use Rattle.coin_amounts.specs.Coins.{coins_view};
-ghost use Rattle.chain_records.specs.Keys.{plain_key, key_bytes, IsKeyOf};
+ghost use Rattle.chain_records.specs.Keys.{plain_key, key_bytes, IsKeyOf, IsAddress};
 ghost use Rattle.chain_records.specs.Keys as keys;
+ghost use Rattle.chain_records.specs.Spelled.{OfEach};
 ghost use Rattle.bank_ledger.specs.Accounts.{held};
-ghost use Rattle.bank_ledger.specs.Lawful.{IsAddress, HasLawfulAmounts};
-ghost use Rattle.bank_ledger.specs.Spelled.{OfEach, HasLawful};
+ghost use Rattle.bank_ledger.specs.Lawful.{HasLawfulAmounts, HasLawful};
 ghost use Rattle.bank_ledger.specs.Steps.{IsNextHeld, IsBalance, found_view};
 
 use crate::amounts::amount_of;

@@ -1,6 +1,5 @@
 ghost use Rattle.std.specs.Prelude.{◌≡◌, IfOk};
-ghost use Rattle.chain_records.specs.Keys.{plain_key, balance, supply};
-ghost use Rattle.bank_ledger.specs.Lawful.{IsAddress};
+ghost use Rattle.chain_records.specs.Keys.{plain_key, balance, supply, IsAddress};
 ghost use Rattle.bank_ledger.specs.Steps.{IsAmountKey};
 
 use chain_records::Key;

@@ -2,17 +2,20 @@
 
 ghost use Rattle.std.specs.Prelude.{◌≡◌, ◌↔◌, ◌+◌, ◌<◌, ◌^◌, true, false, Ok, IfOk, OnOk, IsTrue};
 ghost use Rattle.coin_amounts.specs.Denom.{IsDenom};
-ghost use Rattle.chain_records.specs.Keys.{plain_key};
+ghost use Rattle.chain_records.specs.Keys.{plain_key, IsAddress};
 ghost use Rattle.chain_records.specs.Records.{plain_facts};
 ghost use Rattle.chain_records.specs.State.{State, Spells};
 ghost use Rattle.bank_ledger.specs.Accounts.{supply};
-ghost use Rattle.bank_ledger.specs.Lawful.{IsAddress, HasLawfulAmounts};
+ghost use Rattle.bank_ledger.specs.Lawful.{HasLawfulAmounts};
 ghost use Rattle.bank_ledger.specs.Minted.{opening, IsMinted, HasLawfulRecords};
 ghost use Rattle.bank_ledger.specs.Steps.{IsAmountKey, with_amount};
 
 use crate::keys::{balance_key, supply_key};
 use crate::readers::{balance, supply};
-use chain_records::{Counters, Facts, Key, Stored, key_bytes, one_record_changes, stored_bytes};
+use chain_records::{
+    Counters, Facts, Key, Stored, facts_and_counters_begin_a_chain, key_bytes, one_record_changes,
+    stored_bytes,
+};
 use kv_layers::Plain;
 use std::alloc::{AllocError, Global};
 
@@ -20,11 +23,13 @@ use std::alloc::{AllocError, Global};
 pub fn opened(alloc: Global, facts: Facts) -> Result<Plain, AllocError>
     ensures spelled { IfOk result (λ plain. Spells plain (opening (plain_facts facts))) }
     ensures lawful { IfOk result (λ plain. HasLawfulAmounts (opening (plain_facts facts))) }
+    ensures records { IfOk result (λ plain. HasLawfulRecords plain) }
 {
     let counters = Counters {
         next_code: 1,
         next_instance: 1,
     };
+    facts_and_counters_begin_a_chain();
     let mut plain = Plain::new(alloc);
     let key = key_bytes(alloc, &Key::Facts)?;
     plain.insert(key, stored_bytes(alloc, &Stored::Facts(facts))?)?;
@@ -65,6 +70,7 @@ pub fn mint(
     ensures minted { result ≡ Ok true → (s : State) → Spells plain.old s → HasLawfulAmounts s
         → (t : State) × Spells plain.new t × IsMinted s to.now denom.now amount t }
     ensures unchanged { result ≡ Ok false → plain.new ≡ plain.old }
+    ensures lawful { OnOk result (HasLawfulRecords plain.new) }
 {
     let Some(total) = supply(alloc, &*plain, denom)?.checked_add(amount) else {
         return Ok(false);

@@ -1,8 +1,8 @@
 ghost use Rattle.std.specs.Prelude.{◌≡◌, IfOk};
 ghost use Rattle.coin_amounts.specs.Coins.{coins_view};
+ghost use Rattle.chain_records.specs.Keys.{IsAddress};
+ghost use Rattle.chain_records.specs.Spelled.{OfEach, HasTyped};
 ghost use Rattle.bank_ledger.specs.Accounts.{balance, supply, held};
-ghost use Rattle.bank_ledger.specs.Lawful.{IsAddress};
-ghost use Rattle.bank_ledger.specs.Spelled.{OfEach, HasTyped};
 
 use crate::amounts::amount_at;
 use crate::keys::{balance_key, supply_key};

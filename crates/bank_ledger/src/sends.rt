@@ -2,12 +2,15 @@ ghost use Rattle.std.specs.Prelude.{◌≡◌, ◌≤◌, OnOk, IfErr};
 ghost use Rattle.coin_amounts.specs.Plain.{coin_view};
 ghost use Rattle.coin_amounts.specs.Coins.{coins_view};
 ghost use Rattle.kv_layers.specs.Layers.{depth, HasCurrent};
+ghost use Rattle.chain_records.specs.Keys.{IsAddress};
+ghost use Rattle.chain_records.specs.Spelled.{OfSome, OfEach};
+ghost use Rattle.kv_layers.specs.Spelling.{Becomes, Writes};
+ghost use Rattle.chain_records.specs.State.{Spells};
+ghost use Rattle.bank_ledger.specs.Lawful.{HasLawful, HasLawfulAmounts};
 ghost use Rattle.bank_ledger.specs.Balances.{shortfall};
 ghost use Rattle.bank_ledger.specs.Accounts.{balance};
-ghost use Rattle.bank_ledger.specs.Lawful.{IsAddress};
-ghost use Rattle.bank_ledger.specs.Spelled.{OfSome, OfEach, HasLawful};
-ghost use Rattle.bank_ledger.specs.Effects.{Becomes, IsSent, IsStop, Leaves};
-ghost use Rattle.bank_ledger.specs.Steps.{one_sent, Writes, CanSend};
+ghost use Rattle.bank_ledger.specs.Effects.{IsSent, IsStop, Leaves, UnlessNoMemory};
+ghost use Rattle.bank_ledger.specs.Steps.{one_sent, CanSend};
 
 use crate::amounts::{lower, raise};
 use crate::keys::balance_key;
@@ -28,17 +31,17 @@ pub fn send<B: Base>(
     requires from { IsAddress from.now }
     requires to { IsAddress to.now }
     requires lawful { HasLawful (HasCurrent B.stands_for layers.old) }
-    ensures sent { OnOk result (Becomes B.stands_for layers.old layers.new
+    ensures sent { OnOk result (Becomes Spells HasLawfulAmounts B.stands_for layers.old layers.new
         (λ s t. IsSent s from.now to.now (coins_view coins.now) t)) }
     ensures stop { IfErr result (λ stop. OfEach (HasCurrent B.stands_for layers.old)
         (λ s. IsStop stop (shortfall (balance s) from.now (coins_view coins.now)))) }
+    ensures lawful { OnOk result (HasLawful (HasCurrent B.stands_for layers.new)) }
+    ensures still_lawful { IfErr result (λ stop. UnlessNoMemory stop
+        (HasLawful (HasCurrent B.stands_for layers.new))) }
     ensures unchanged { IfErr result (Leaves B.stands_for layers.old layers.new) }
     ensures depth { depth layers.new ≡ depth layers.old }
 {
-    match check(alloc, &*layers, from, coins) {
-        Ok(()) => {}
-        Err(stop) => return Err(stop),
-    }
+    check(alloc, &*layers, from, coins)?;
     for coin in &coins.list {
         move_coin(alloc, layers, from, to, coin)?;
     }
@@ -57,7 +60,7 @@ fn move_coin<B: Base>(
     requires to { IsAddress to.now }
     requires can { OfSome (HasCurrent B.stands_for layers.old)
         (CanSend from.now to.now (coin_view coin.now)) }
-    ensures ok { OnOk result (Writes B.stands_for layers.old layers.new
+    ensures ok { OnOk result (Writes Spells B.stands_for layers.old layers.new
         (λ s. one_sent s from.now to.now (coin_view coin.now))) }
     ensures depth { depth layers.new ≡ depth layers.old }
 {

@@ -1,9 +1,9 @@
 ghost use Rattle.std.specs.Prelude.{◌≡◌, OnOk, IfErr, None};
 ghost use Rattle.coin_amounts.specs.Coins.{coins_view};
+ghost use Rattle.chain_records.specs.Keys.{IsAddress};
+ghost use Rattle.chain_records.specs.Spelled.{OfEach, HasTyped};
 ghost use Rattle.bank_ledger.specs.Balances.{shortfall};
 ghost use Rattle.bank_ledger.specs.Accounts.{balance};
-ghost use Rattle.bank_ledger.specs.Lawful.{IsAddress};
-ghost use Rattle.bank_ledger.specs.Spelled.{OfEach, HasTyped};
 ghost use Rattle.bank_ledger.specs.Effects.{IsStop};
 
 use crate::readers::balance;

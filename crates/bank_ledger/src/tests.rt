@@ -1,13 +1,11 @@
 ghost use Rattle.std.specs.Prelude.{◌≡◌, ◌<◌, ◌≤◌, OnOk, IfOk};
-ghost use Rattle.coin_amounts.specs.Denom.{IsDenom};
 ghost use Rattle.kv_layers.specs.Layers.{HasCurrent};
-ghost use Rattle.bank_ledger.specs.Lawful.{IsAddress};
-ghost use Rattle.bank_ledger.specs.Spelled.{HasLawful};
+ghost use Rattle.chain_records.specs.Keys.{IsAddress};
+ghost use Rattle.bank_ledger.specs.Lawful.{HasLawful};
+ghost use Rattle.bank_ledger.specs.Minted.{HasLawfulRecords};
 
-use crate::amounts::raise;
-use crate::keys::{balance_key, supply_key};
-use crate::{BankStop, all_balances, balance, burn, send, supply};
-use chain_records::{Counters, Facts, Key, Stored, key_bytes, stored_bytes};
+use crate::{BankStop, all_balances, balance, burn, mint, opened, send, supply};
+use chain_records::Facts;
 use coin_amounts::{Coins, CoinsFault, RawCoin, coins_text, read_coins};
 use kv_layers::{Base, Layers, Plain};
 use std::alloc::{AllocError, Global};
@@ -18,8 +16,8 @@ const ONE: [u8; 2] = [0xAA, 0xBB];
 const OTHER: [u8; 2] = [0xAA, 0xBC];
 
 /// A chain without amounts.
-fn opened(alloc: Global) -> Result<Layers<Plain>, AllocError>
-    ensures { IfOk result (λ layers. HasLawful (HasCurrent ⟦<Plain as Base>⟧.stands_for layers)) }
+fn begun(alloc: Global) -> Result<Plain, AllocError>
+    ensures { IfOk result (λ plain. HasLawfulRecords plain) }
 {
     let facts = Facts {
         chain_id: String::from_str(alloc, "t-1")?,
@@ -30,40 +28,15 @@ fn opened(alloc: Global) -> Result<Layers<Plain>, AllocError>
         height: 0,
         time: 0,
     };
-    let counters = Counters {
-        next_code: 1,
-        next_instance: 1,
-    };
-    let mut plain = Plain::new(alloc);
-    let key = key_bytes(alloc, &Key::Facts)?;
-    plain.insert(key, stored_bytes(alloc, &Stored::Facts(facts))?)?;
-    let key = key_bytes(alloc, &Key::Counters)?;
-    plain.insert(key, stored_bytes(alloc, &Stored::Counters(counters))?)?;
-    Ok(Layers::new(alloc, plain))
+    opened(alloc, facts)
 }
 
-/// Gives an address an amount that wasn't there.
-fn mint(
-    alloc: Global,
-    layers: &mut Layers<Plain>,
-    addr: &[u8],
-    denom: &str,
-    amount: u128,
-) -> Result<(), AllocError>
-    requires address { IsAddress addr.now }
-    requires denom { IsDenom denom.now }
-    requires amount { amount ≤ 1000 }
-    requires lawful { HasLawful (HasCurrent ⟦<Plain as Base>⟧.stands_for layers.old) }
-    ensures { OnOk result (HasLawful (HasCurrent ⟦<Plain as Base>⟧.stands_for layers.new)) }
+/// One layer over the records.
+fn layered(alloc: Global, plain: Plain) -> Layers<Plain>
+    requires { HasLawfulRecords plain }
+    ensures { HasLawful (HasCurrent ⟦<Plain as Base>⟧.stands_for result) }
 {
-    if supply(alloc, &*layers, denom)? > 1000 {
-        return Err(AllocError);
-    }
-    let account = balance_key(alloc, addr, denom)?;
-    raise(alloc, layers, &account, amount)?;
-    let total = supply_key(alloc, denom)?;
-    raise(alloc, layers, &total, amount)?;
-    Ok(())
+    Layers::new(alloc, plain)
 }
 
 /// Sends, and answers what was there and what was wanted where that is too little.
@@ -128,8 +101,9 @@ fn short(
 #[test]
 fn a_send_moves_to_another_and_changes_nothing_to_oneself(rt: HostRuntime) -> Result<(), Fail> {
     let alloc = rt.alloc();
-    let mut layers = opened(alloc)?;
-    mint(alloc, &mut layers, &ONE, "utok", 10)?;
+    let mut plain = begun(alloc)?;
+    mint(alloc, &mut plain, &ONE, "utok", 10)?;
+    let mut layers = layered(alloc, plain);
     let ten = coins(alloc, &[("utok", "10")])?;
     let eleven = coins(alloc, &[("utok", "11")])?;
     let three = coins(alloc, &[("utok", "3")])?;
@@ -150,8 +124,9 @@ fn a_send_moves_to_another_and_changes_nothing_to_oneself(rt: HostRuntime) -> Re
 #[test]
 fn a_burn_lowers_the_balance_and_the_supply(rt: HostRuntime) -> Result<(), Fail> {
     let alloc = rt.alloc();
-    let mut layers = opened(alloc)?;
-    mint(alloc, &mut layers, &ONE, "utok", 10)?;
+    let mut plain = begun(alloc)?;
+    mint(alloc, &mut plain, &ONE, "utok", 10)?;
+    let mut layers = layered(alloc, plain);
     let four = coins(alloc, &[("utok", "4")])?;
     let seven = coins(alloc, &[("utok", "7")])?;
     assert_eq!(rt; try_burn(alloc, &mut layers, &ONE, &four)?, None);
@@ -171,11 +146,12 @@ fn the_first_denom_that_falls_short_is_told_and_nothing_is_moved(
     rt: HostRuntime,
 ) -> Result<(), Fail> {
     let alloc = rt.alloc();
-    let mut layers = opened(alloc)?;
-    mint(alloc, &mut layers, &ONE, "utok", 10)?;
-    mint(alloc, &mut layers, &ONE, "atok", 5)?;
-    mint(alloc, &mut layers, &ONE, "ztok", 1)?;
-    mint(alloc, &mut layers, &OTHER, "atok", 2)?;
+    let mut plain = begun(alloc)?;
+    mint(alloc, &mut plain, &ONE, "utok", 10)?;
+    mint(alloc, &mut plain, &ONE, "atok", 5)?;
+    mint(alloc, &mut plain, &ONE, "ztok", 1)?;
+    mint(alloc, &mut plain, &OTHER, "atok", 2)?;
+    let mut layers = layered(alloc, plain);
     let many = coins(alloc, &[("ztok", "2"), ("utok", "11"), ("atok", "5")])?;
     let all = coins(alloc, &[("utok", "10"), ("atok", "4"), ("ztok", "1")])?;
     assert_eq!(rt;
@@ -189,5 +165,33 @@ fn the_first_denom_that_falls_short_is_told_and_nothing_is_moved(
     assert_eq!(rt; coins_text(alloc, &held)?.as_str(), "1atok");
     let held = all_balances(alloc, &layers, &OTHER)?;
     assert_eq!(rt; coins_text(alloc, &held)?.as_str(), "6atok,10utok,1ztok");
+    Ok(())
+}
+
+#[test]
+fn a_minted_amount_counts_for_its_account_and_the_supply_which_has_128_bits(
+    rt: HostRuntime,
+) -> Result<(), Fail> {
+    let alloc = rt.alloc();
+    let mut plain = begun(alloc)?;
+    assert_eq!(rt; supply(alloc, &plain, "utok")?, 0);
+    assert_eq!(rt; balance(alloc, &plain, &ONE, "utok")?, 0);
+    assert!(rt; mint(alloc, &mut plain, &OTHER, "utok", 5)?);
+    // an amount above 0, whether it is minted, and then what the account has and the supply
+    for (amount, minted, have, total) in [
+        (1, true, 1, 6),
+        (u128::MAX - 5, false, 1, 6),
+        (u128::MAX - 6, true, u128::MAX - 5, u128::MAX),
+        (1, false, u128::MAX - 5, u128::MAX),
+    ] {
+        let taken = mint(alloc, &mut plain, &ONE, "utok", u128::max(amount, 1))?;
+        assert_eq!(rt; taken, minted, "at {amount}");
+        assert_eq!(rt;
+            balance(alloc, &plain, &ONE, "utok")?,
+            have,
+            "after {amount}"
+        );
+        assert_eq!(rt; supply(alloc, &plain, "utok")?, total, "after {amount}");
+    }
     Ok(())
 }

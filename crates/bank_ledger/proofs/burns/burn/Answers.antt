@@ -6,6 +6,7 @@ use Rattle.coin_amounts.specs.Plain.{Coin, coin_view}
 use Rattle.chain_records.specs.State.{State}
 use Rattle.bank_ledger.specs.Balances.{shortfall}
 use Rattle.bank_ledger.specs.Accounts.{balance}
+use Rattle.bank_ledger.specs.Lawful.{HasLawfulAmounts}
 use Rattle.bank_ledger.specs.Effects.{IsBurned}
 use Rattle.bank_ledger.specs.Steps.{one_burned, CanBurn}
 use Rattle.bank_ledger.proofs.Paying.{rising_parts}
@@ -25,7 +26,7 @@ loop-coin-init g c =
       rising = c.args.coins.now.rising;
       positive = recursion_from_All IsAbove coins c.args.coins.now.positive;
       depth = refl;
-      burned = Becomes-start g.B.Base.stands_for c.args.layers.now (λ (s : State). shortfall (balance s) from coins ≡ None) (λ (s t : State). PartlyBurned s from coins coins t) (λ s lawful enough. none_burned s from coins lawful enough) c.in-Ok.ensures.ok;
+      burned = Becomes-start g.B.Base.stands_for c.args.layers.now (λ (s : State). shortfall (balance s) from coins ≡ None) (λ (s t : State). PartlyBurned s from coins coins t) (λ s lawful enough. none_burned s from coins lawful enough) c.in_ok-check.ensures.ok;
     }
 
 pub burn_coin-requires-clause-can : goal.burn_coin-requires-clause-can
@@ -71,3 +72,8 @@ returns-clause-burned g c =
     let from = c.args.from.now in
     let coins = coins_view c.args.coins.now in
     Becomes-only g.B.Base.stands_for c.args.layers.now c.loop-coin.layers (λ (s t : State). PartlyBurned s from coins [] t) (λ (s t : State). IsBurned s from coins t) (λ s t so. all_burned s t from coins so) (rw done at c.loop-coin.invariant.burned)
+
+pub returns-clause-lawful : goal.returns-clause-lawful
+returns-clause-lawful g c =
+    let rest = map coin_view (drop c.loop-coin.coin-index c.args.coins.now.list.items) in
+    Becomes-some g.B.Base.stands_for c.args.layers.now c.loop-coin.layers (λ (s t : State). PartlyBurned s c.args.from.now (coins_view c.args.coins.now) rest t) HasLawfulAmounts (λ s t so. so.lawful) c.loop-coin.invariant.burned c.requires.lawful

@@ -4,9 +4,10 @@ use Rattle.std.specs.List.{AllByRecursion}
 use Rattle.coin_amounts.specs.Coins.{coins_view}
 use Rattle.coin_amounts.specs.Order.{IsRising}
 use Rattle.coin_amounts.specs.Plain.{Coin, coin_view}
-use Rattle.chain_records.specs.State.{State}
+use Rattle.chain_records.specs.State.{State, Spells}
 use Rattle.kv_layers.specs.Layers.{depth}
-use Rattle.bank_ledger.specs.Effects.{Becomes}
+use Rattle.kv_layers.specs.Spelling.{Becomes}
+use Rattle.bank_ledger.specs.Lawful.{HasLawfulAmounts}
 use Rattle.bank_ledger.proofs.Burning.{PartlyBurned}
 use Rattle.bank_ledger.proofs.burns.burn.Given as goal
 
@@ -17,5 +18,5 @@ invariant-loop-coin g l =
       rising : IsRising rest;
       positive : AllByRecursion (λ (coin : Coin). 0 < coin.amount) rest;
       depth : depth l.layers ≡ depth l.fn.layers;
-      burned : Becomes g.B.Base.stands_for l.fn.layers l.layers (λ (s t : State). PartlyBurned s l.fn.from (coins_view l.fn.coins) rest t);
+      burned : Becomes Spells HasLawfulAmounts g.B.Base.stands_for l.fn.layers l.layers (λ (s t : State). PartlyBurned s l.fn.from (coins_view l.fn.coins) rest t);
     }

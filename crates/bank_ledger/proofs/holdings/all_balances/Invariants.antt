@@ -4,9 +4,9 @@ use Rattle.std.specs.FinMap.{entries}
 use Rattle.coin_amounts.specs.Plain.{coin_view}
 use Rattle.chain_records.specs.Keys.{key_bytes}
 use Rattle.chain_records.specs.Keys as keys
+use Rattle.chain_records.specs.Spelled.{OfEach}
 use Rattle.bank_ledger.specs.Accounts.{held}
 use Rattle.bank_ledger.specs.Lawful.{HasLawfulAmounts}
-use Rattle.bank_ledger.specs.Spelled.{OfEach}
 use Rattle.bank_ledger.proofs.Holding.{rest_of}
 use Rattle.bank_ledger.proofs.Room.{room, AreBytes}
 use Rattle.bank_ledger.proofs.holdings.all_balances.Given as goal

@@ -6,6 +6,7 @@ use Rattle.coin_amounts.specs.Plain.{Coin, coin_view}
 use Rattle.chain_records.specs.State.{State}
 use Rattle.bank_ledger.specs.Balances.{shortfall}
 use Rattle.bank_ledger.specs.Accounts.{balance}
+use Rattle.bank_ledger.specs.Lawful.{HasLawfulAmounts}
 use Rattle.bank_ledger.specs.Effects.{IsSent}
 use Rattle.bank_ledger.specs.Steps.{one_sent, CanSend}
 use Rattle.bank_ledger.proofs.Paying.{rising_parts}
@@ -25,7 +26,7 @@ loop-coin-init g c =
       rising = c.args.coins.now.rising;
       positive = recursion_from_All IsAbove coins c.args.coins.now.positive;
       depth = refl;
-      sent = Becomes-start g.B.Base.stands_for c.args.layers.now (λ (s : State). shortfall (balance s) from coins ≡ None) (λ (s t : State). PartlySent s from to coins coins t) (λ s lawful enough. none_sent s from to coins lawful enough) c.in-Ok.ensures.ok;
+      sent = Becomes-start g.B.Base.stands_for c.args.layers.now (λ (s : State). shortfall (balance s) from coins ≡ None) (λ (s t : State). PartlySent s from to coins coins t) (λ s lawful enough. none_sent s from to coins lawful enough) c.in_ok-check.ensures.ok;
     }
 
 pub move_coin-requires-clause-can : goal.move_coin-requires-clause-can
@@ -74,3 +75,8 @@ returns-clause-sent g c =
     let to = c.args.to.now in
     let coins = coins_view c.args.coins.now in
     Becomes-only g.B.Base.stands_for c.args.layers.now c.loop-coin.layers (λ (s t : State). PartlySent s from to coins [] t) (λ (s t : State). IsSent s from to coins t) (λ s t so. all_sent s t from to coins so) (rw done at c.loop-coin.invariant.sent)
+
+pub returns-clause-lawful : goal.returns-clause-lawful
+returns-clause-lawful g c =
+    let rest = map coin_view (drop c.loop-coin.coin-index c.args.coins.now.list.items) in
+    Becomes-some g.B.Base.stands_for c.args.layers.now c.loop-coin.layers (λ (s t : State). PartlySent s c.args.from.now c.args.to.now (coins_view c.args.coins.now) rest t) HasLawfulAmounts (λ s t so. so.lawful) c.loop-coin.invariant.sent c.requires.lawful

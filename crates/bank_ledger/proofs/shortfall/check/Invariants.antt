@@ -3,9 +3,9 @@ use Rattle.std.proofs.Common.{◌≡◌, map, drop}
 use Rattle.chain_records.specs.State.{State}
 use Rattle.coin_amounts.specs.Coins.{coins_view}
 use Rattle.coin_amounts.specs.Plain.{coin_view}
+use Rattle.chain_records.specs.Spelled.{OfEach}
 use Rattle.bank_ledger.specs.Balances.{shortfall}
 use Rattle.bank_ledger.specs.Accounts.{balance}
-use Rattle.bank_ledger.specs.Spelled.{OfEach}
 use Rattle.bank_ledger.proofs.shortfall.check.Given as goal
 
 abbrev pub invariant-loop-coin : goal.invariant-loop-coin
