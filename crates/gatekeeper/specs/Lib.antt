@@ -4,3 +4,7 @@ pub mod Rules
 pub mod Accepted
 pub mod CodeBytes
 pub mod Texts
+pub mod Cache
+pub mod CacheExamples
+pub mod Fetches
+pub mod Contract

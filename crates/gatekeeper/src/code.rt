@@ -1,3 +1,4 @@
+ghost use Rattle.wasm_types.specs.ModuleText.{AreBytes};
 ghost use Rattle.gatekeeper.specs.Accepted.{IsAccepted};
 
 use sha2::{Digest, Sha256};
@@ -7,8 +8,12 @@ use std::alloc::AllocError;
 #[derive(Debug, Drop)]
 pub struct ValidCode {
     bytes: Vec<u8>,
-    ghost accepted: { IsAccepted bytes.items },
+    pub ghost accepted: { IsAccepted bytes.items },
 }
+
+fn are_bytes(bytes: &[u8])
+    ensures { AreBytes bytes.now }
+{}
 
 impl ValidCode {
     ghost use Rattle.std.specs.Prelude.{◌≡◌, IfOk};
@@ -21,6 +26,14 @@ impl ValidCode {
         ensures { IfOk result (λ c. code_bytes c ≡ code.items) }
     {
         Ok(ValidCode { bytes: code })
+    }
+
+    /// That the code was accepted, and that its bytes are bytes, for proofs.
+    pub fn is_accepted(&self)
+        ensures accepted { IsAccepted (code_bytes self.now) }
+        ensures bytes { AreBytes (code_bytes self.now) }
+    {
+        are_bytes(&self.bytes);
     }
 
     pub fn bytes(&self) -> &[u8]

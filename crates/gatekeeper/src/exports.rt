@@ -223,20 +223,8 @@ pub fn check_exports(alloc: Global, m: &Module, caps: &[String]) -> Result<(), G
     requires { IsShaped (plain_module m.now) }
     ensures { Judges result (first_some (export_rules (map string_bytes caps.now) (plain_module m.now))) }
 {
-    match check_wanted(alloc, m) {
-        Ok(()) => {}
-        Err(stop) => return Err(stop),
-    }
-    match check_interface(m) {
-        Ok(()) => {}
-        Err(stop) => return Err(stop),
-    }
-    match check_entries(alloc, m) {
-        Ok(()) => {}
-        Err(stop) => return Err(stop),
-    }
-    match check_capabilities(alloc, m, caps) {
-        Ok(()) => Ok(()),
-        Err(stop) => Err(stop),
-    }
+    check_wanted(alloc, m)?;
+    check_interface(m)?;
+    check_entries(alloc, m)?;
+    check_capabilities(alloc, m, caps)
 }

@@ -47,26 +47,11 @@ fn check_module(alloc: Global, m: &Module, caps: &[String]) -> Result<(), GateSt
     ensures { Judges result (first_some (module_rules (map string_bytes caps.now) (plain_module m.now))) }
 {
     spelled_are_shaped();
-    match check_valid(alloc, m) {
-        Ok(()) => {}
-        Err(stop) => return Err(stop),
-    }
-    match check_imports(m) {
-        Ok(()) => {}
-        Err(stop) => return Err(stop),
-    }
-    match check_memory(m) {
-        Ok(()) => {}
-        Err(stop) => return Err(stop),
-    }
-    match check_table(m) {
-        Ok(()) => {}
-        Err(stop) => return Err(stop),
-    }
-    match check_segments(m) {
-        Ok(()) => {}
-        Err(stop) => return Err(stop),
-    }
+    check_valid(alloc, m)?;
+    check_imports(m)?;
+    check_memory(m)?;
+    check_table(m)?;
+    check_segments(m)?;
     check_exports(alloc, m, caps)
 }
 

@@ -125,20 +125,8 @@ pub fn check_imports(m: &Module) -> Result<(), GateStop>
     requires { IsShaped (plain_module m.now) }
     ensures { Judges result (first_some (import_rules (plain_module m.now))) }
 {
-    match judge_all(&AreFunctions, &m.imports) {
-        Ok(()) => {}
-        Err(stop) => return Err(stop),
-    }
-    match check_count(m) {
-        Ok(()) => {}
-        Err(stop) => return Err(stop),
-    }
-    match judge_all(&AreKnown, &m.imports) {
-        Ok(()) => {}
-        Err(stop) => return Err(stop),
-    }
-    match check_types(m) {
-        Ok(()) => Ok(()),
-        Err(stop) => Err(stop),
-    }
+    judge_all(&AreFunctions, &m.imports)?;
+    check_count(m)?;
+    judge_all(&AreKnown, &m.imports)?;
+    check_types(m)
 }

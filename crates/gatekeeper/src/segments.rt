@@ -111,12 +111,6 @@ pub fn check_segments(m: &Module) -> Result<(), GateStop>
     requires { IsShaped (plain_module m.now) }
     ensures { Judges result (first_some (segment_rules (plain_module m.now))) }
 {
-    match check_elements(m) {
-        Ok(()) => {}
-        Err(stop) => return Err(stop),
-    }
-    match check_data(m) {
-        Ok(()) => Ok(()),
-        Err(stop) => Err(stop),
-    }
+    check_elements(m)?;
+    check_data(m)
 }

@@ -3,7 +3,7 @@ ghost use Rattle.std.specs.Cmp.Lexicographic.{pointwise};
 ghost use Rattle.wasm_types.specs.declared.value.ValType.TheVariants.{I32};
 ghost use Rattle.std.specs.List.{list_all};
 ghost use Rattle.wasm_types.specs.Plain.{plain_func_type};
-ghost use Rattle.wasm_types.specs.Typing.{same_type, same_result};
+ghost use Rattle.wasm_types.specs.Typing.{same_type};
 ghost use Rattle.wasm_types.specs.Gate.{same_func_type};
 ghost use Rattle.gatekeeper.specs.Signatures.{plain_signature, is_i32};
 
@@ -19,10 +19,7 @@ pub struct Signature {
 fn is_i32(t: ValType) -> bool
     ensures { result ≡ is_i32 t }
 {
-    match t {
-        ValType::I32 => true,
-        ValType::I64 => false,
-    }
+    t == ValType::I32
 }
 
 fn are_i32(types: &[ValType]) -> bool
@@ -42,23 +39,11 @@ fn are_params(types: &[ValType], count: usize) -> bool
     are_i32(types)
 }
 
-fn is_same(a: Option<ValType>, b: Option<ValType>) -> bool
-    ensures { result ≡ same_result a b }
-{
-    match a {
-        None => b.is_none(),
-        Some(a) => match b {
-            None => false,
-            Some(b) => is_i32(a) == is_i32(b),
-        },
-    }
-}
-
 impl Signature {
     /// Whether a function has this type.
     pub fn is_of(self, ty: &FuncType) -> bool
         ensures { result ≡ same_func_type (plain_func_type ty.now) (plain_signature self) }
     {
-        are_params(&ty.params, self.params) && is_same(ty.result, self.result)
+        are_params(&ty.params, self.params) && ty.result == self.result
     }
 }

@@ -2,13 +2,16 @@ ghost use Rattle.std.specs.Prelude.{◌≡◌};
 ghost use Rattle.gatekeeper.specs.declared.stop.GateStop.TheVariants.{NoMemory};
 
 use std::alloc::{AllocError, AllocFailed};
+use thiserror::Error;
 use wasm_types::GateRefusal;
 
 /// Why a code isn't taken.
-#[derive(Debug, Drop, PartialEq, Eq)]
+#[derive(Debug, Drop, PartialEq, Eq, Error)]
 pub enum GateStop {
     /// The first rule that it breaks.
+    #[error("the code is refused: {0:?}")]
     Refused(GateRefusal),
+    #[error("memory ran out")]
     NoMemory,
 }
 
