@@ -4,7 +4,8 @@ use Rattle.gas_store.specs.declared.scan.Scan as scan_type
 use Rattle.gas_store.specs.declared.scoped.Scoped.{Scoped}
 use Rattle.std.specs.Option.{option_map}
 use Rattle.std.specs.Global.{Vec}
-use Rattle.kv_layers.specs.Plain.{value_view, entry_view}
+use Rattle.kv_layers.specs.Plain.{entry_view}
+use Rattle.kv_layers.specs.Sorted.{lower, upper}
 use Rattle.gas_store.specs.Scans.{Scan, Entry}
 
 -- the address stands behind two bytes
@@ -15,7 +16,7 @@ abbrev pub is_read_only : Scoped → Bool
 is_read_only scoped = scoped.read_only
 
 abbrev pub scan_view : scan_type.Scan → Scan
-scan_view scan = record { lo = value_view scan.lo; hi = value_view scan.hi; order = scan.order; given = scan.given }
+scan_view scan = record { lo = lower scan.bounds; hi = upper scan.bounds; order = scan.order; given = scan.given }
 
 abbrev pub scans_of : Scoped → List Scan
 scans_of scoped = map scan_view scoped.scans.items

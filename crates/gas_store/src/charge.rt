@@ -2,7 +2,7 @@ ghost use Rattle.std.specs.Prelude.{◌≡◌, ◌+◌, ◌*◌, ◌<◌, ◌≤
 ghost use Rattle.gas_meter.specs.Gas.{spent, exhausted};
 
 use crate::stop::StoreStop;
-use gas_meter::Meter;
+use gas_meter::{Meter, OutOfGas};
 
 /// What so many bytes cost with a number that doesn't depend on them.
 pub(crate) fn cost_of(base: u64, per_byte: u8, first: usize, second: usize) -> u128
@@ -17,11 +17,8 @@ pub(crate) fn charge(meter: &mut Meter, cost: u128) -> Result<(), StoreStop>
     ensures err { IfErr result (λ stop. (stop ≡ StoreStop.OutOfGas) × (meter.old.left < cost)
         × (meter.new ≡ exhausted meter.old)) }
 {
-    let left = meter.left();
-    if u128::from(left) < cost {
-        meter.spend(left);
-        return Err(StoreStop::OutOfGas);
+    match meter.charge_wide(cost) {
+        Ok(()) => Ok(()),
+        Err(OutOfGas) => Err(StoreStop::OutOfGas),
     }
-    meter.spend(cost as u64);
-    Ok(())
 }

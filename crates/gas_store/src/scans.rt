@@ -18,7 +18,7 @@ use crate::scan::Scan;
 use crate::scoped::Scoped;
 use crate::stop::StoreStop;
 use gas_meter::{Meter, Schedule};
-use kv_layers::{Base, Layers, Order};
+use kv_layers::{Base, Bounds, Layers, Order};
 use std::alloc::{AllocError, Global};
 
 /// How many bytes a bound has.
@@ -31,19 +31,9 @@ fn len_of(bound: Option<&[u8]>) -> usize
     }
 }
 
-/// A bound that is kept.
-fn kept(alloc: Global, bound: Option<&[u8]>) -> Result<Option<Vec<u8>>, AllocError>
-    ensures { IfOk result (λ own. value_view own ≡ option_copied bound.entry) }
-{
-    match bound {
-        Some(bytes) => Ok(Some(bytes.to_vec(alloc)?)),
-        None => Ok(None),
-    }
-}
-
 /// Where the keys of a contract from a bound on begin.
-fn lower(alloc: Global, prefix: &[u8], lo: &Option<Vec<u8>>) -> Result<Vec<u8>, AllocError>
-    ensures { IfOk result (λ place. place.items ≡ lower_place prefix.now (value_view lo.now)) }
+fn lower(alloc: Global, prefix: &[u8], lo: Option<&[u8]>) -> Result<Vec<u8>, AllocError>
+    ensures { IfOk result (λ place. place.items ≡ lower_place prefix.now (option_copied lo.entry)) }
 {
     match lo {
         Some(lo) => joined(alloc, prefix, lo),
@@ -52,14 +42,9 @@ fn lower(alloc: Global, prefix: &[u8], lo: &Option<Vec<u8>>) -> Result<Vec<u8>, 
 }
 
 /// Where the keys of a contract below a bound end.
-fn upper(
-    alloc: Global,
-    prefix: &[u8],
-    end: &[u8],
-    hi: &Option<Vec<u8>>,
-) -> Result<Vec<u8>, AllocError>
+fn upper(alloc: Global, prefix: &[u8], end: &[u8], hi: Option<&[u8]>) -> Result<Vec<u8>, AllocError>
     requires { end.now ≡ end_of prefix.now }
-    ensures { IfOk result (λ place. place.items ≡ upper_place prefix.now (value_view hi.now)) }
+    ensures { IfOk result (λ place. place.items ≡ upper_place prefix.now (option_copied hi.entry)) }
 {
     match hi {
         Some(hi) => joined(alloc, prefix, hi),
@@ -80,8 +65,8 @@ fn next_entry<B: Base>(
     ensures { IfOk result (λ found. (map : Bytes) → B.stands_for view.now map
         → next_of (storage_of map (drop 2 prefix.now)) (scan_view scan.now) ≡ option_map entry_view found) }
 {
-    let lo = lower(alloc, prefix, &scan.lo)?;
-    let hi = upper(alloc, prefix, end, &scan.hi)?;
+    let lo = lower(alloc, prefix, scan.bounds.lo())?;
+    let hi = upper(alloc, prefix, end, scan.bounds.hi())?;
     match view.next_in(alloc, Some(&lo), Some(&hi), scan.order)? {
         Some((place, value)) => {
             let key = behind(alloc, prefix, &place)?;
@@ -97,11 +82,8 @@ fn narrow(alloc: Global, scan: &mut Scan, key: &[u8]) -> Result<(), AllocError>
         → scan_view scan.new ≡ narrowed (scan_view scan.old) (Some (key.now, value))) }
     ensures given { scan.new.given ≡ scan.old.given }
 {
-    match scan.order {
-        Order::Ascending => scan.lo = Some(joined(alloc, key, &[0])?),
-        Order::Descending => scan.hi = Some(key.to_vec(alloc)?),
-    }
-    Ok(())
+    let key = key.to_vec(alloc)?;
+    scan.bounds.narrow_past(key, scan.order)
 }
 
 /// How many bytes the key and the value of an entry have.
@@ -134,8 +116,7 @@ impl Scoped {
             return Err(StoreStop::TooManyScans);
         }
         let scan = Scan {
-            lo: kept(alloc, lo)?,
-            hi: kept(alloc, hi)?,
+            bounds: Bounds::new(alloc, lo, hi)?,
             order,
             given: below + above,
         };
