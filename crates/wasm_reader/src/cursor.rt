@@ -1,10 +1,7 @@
 ghost use Rattle.std.specs.Prelude.{◌≤◌, length};
 
 use crate::stop::ReadStop;
-use wasm_types::{Leb, ReadKind, is_cut, read_s32, read_s64, read_u32};
-
-/// What every module begins with: its magic number and the version of the format.
-pub const HEADER: [u8; 8] = [0x00, 0x61, 0x73, 0x6D, 0x01, 0x00, 0x00, 0x00];
+use wasm_types::{HEADER, Leb, ReadKind, is_cut, read_s32, read_s64, read_u32};
 
 /// A place in the input, and the bytes up to the end of the body, section or input that holds it.
 #[derive(Drop)]

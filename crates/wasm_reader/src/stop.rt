@@ -2,13 +2,16 @@ ghost use Rattle.std.specs.Prelude.{◌≡◌};
 ghost use Rattle.wasm_reader.specs.declared.stop.ReadStop.TheVariants.{NoMemory};
 
 use std::alloc::{AllocError, AllocFailed};
+use thiserror::Error;
 use wasm_types::ReadKind;
 
 /// Why reading stopped.
-#[derive(Clone, Copy, Debug, PartialEq, Eq)]
+#[derive(Clone, Copy, Debug, PartialEq, Eq, Error)]
 pub enum ReadStop {
     /// The bytes spell no module: the place of the first part that can't be read, and why.
+    #[error("{kind:?} at byte {at}")]
     Fault { at: usize, kind: ReadKind },
+    #[error("out of memory")]
     NoMemory,
 }
 
