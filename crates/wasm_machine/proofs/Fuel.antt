@@ -10,12 +10,13 @@ use Rattle.wasm_types.specs.declared.value.Value.TheVariants.{I32, I64}
 use Rattle.wasm_types.specs.declared.instr.Instr.{Instr}
 use Rattle.wasm_types.specs.declared.instr.Instr.TheVariants.{Op, Index, CallIndirect, BrTable, Mem, Const, Block, Loop, If, Else, End}
 use Rattle.wasm_types.specs.Plain.{PlainFuncType, PlainCode, PlainModule}
+use Rattle.wasm_machine.specs.declared.turn.TrapKind.{TrapKind}
 use Rattle.wasm_machine.specs.declared.turn.TrapKind.TheVariants.{StackOverflow}
 use Rattle.wasm_machine.specs.declared.kind.PlainKind.{PlainKind}
 use Rattle.wasm_machine.specs.declared.kind.PlainKind.TheVariants as plain
 use Rattle.wasm_machine.specs.declared.kind.IndexKind.{IndexKind}
 use Rattle.wasm_machine.specs.declared.kind.IndexKind.TheVariants as indexed
-use Rattle.wasm_machine.specs.Acts.{Act, call, go, answer, memory, Standing, Stands, out_of_gas, ask, done}
+use Rattle.wasm_machine.specs.Acts.{Act, call, go, answer, memory, Standing, Stands, idle, ready, done, trap, out_of_gas, ask}
 use Rattle.wasm_machine.specs.Effects.{Shared, State, Effect, given, with_operands, with_memory, most_values, push, plain_effect, index_effect, memory_effect}
 use Rattle.wasm_machine.specs.Kinds.{plain_kind, index_kind, width, opcode, is_marker}
 use Rattle.wasm_machine.specs.Start.{imported, func_type, code_at, zero_of}
@@ -27,13 +28,21 @@ ahead_of (turn f below result start place outer s a) = a
 ahead_of (enter depth below func args shared a) = a
 ahead_of (host depth below standing shared a) = a
 
--- an outcome has no more before it than this
-abbrev AtMost : ℕ → Outcome → Type 0
+abbrev pub AsksNone : Standing → Type 0
+AsksNone idle = ⊤
+AsksNone ready = ⊤
+AsksNone (done value) = ⊤
+AsksNone (trap kind) = ⊤
+AsksNone out_of_gas = ⊤
+AsksNone (ask i args) = ⊥
+
+-- an outcome of an instruction has no more before it than this
+abbrev pub AtMost : ℕ → Outcome → Type 0
 AtMost n (falls s a) = bound a ≤ n
 AtMost n (jumps label s a) = bound a ≤ n
 AtMost n (returns s a) = bound a ≤ n
 AtMost n (gives v shared a) = bound a ≤ n
-AtMost n (ends r) = ⊤
+AtMost n (ends r) = AsksNone r.standing
 
 -- and less, where it is a branch
 abbrev Within : ℕ → Outcome → Type 0
@@ -43,7 +52,7 @@ Within n (returns s a) = bound a ≤ n
 Within n (gives v shared a) = bound a ≤ n
 Within n (ends r) = ⊤
 
-abbrev MoveAtMost : ℕ → Move → Type 0
+abbrev pub MoveAtMost : ℕ → Move → Type 0
 MoveAtMost n (goes place s a) = bound a ≤ n
 MoveAtMost n (opens loops result start place s a) = bound a ≤ n
 MoveAtMost n (calls func args s a) = bound a ≤ n
@@ -76,7 +85,7 @@ at_most-more k n (falls s a) h le = omega arith
 at_most-more k n (jumps label s a) h le = omega arith
 at_most-more k n (returns s a) h le = omega arith
 at_most-more k n (gives v shared a) h le = omega arith
-at_most-more k n (ends r) h le = tt
+at_most-more k n (ends r) h le = h
 
 move_at_most-more : (k n : ℕ) (o : Move) → MoveAtMost k o → k ≤ n → MoveAtMost n o
 move_at_most-more k n (goes place s a) h le = omega arith
@@ -93,15 +102,21 @@ within-more k n (ends r) h le = tt
 
 -- ---- single instructions
 
-record Under (n : ℕ) (o : Move) : Type 0 where
+pub record Under (n : ℕ) (o : Move) : Type 0 where
   pub it : MoveAtMost n o
 
 at_choice : {n : ℕ} (b : Bool) {x y : Move} → Under n x → Under n y → Under n (cond b x y)
 at_choice true p q = p
 at_choice false p q = q
 
-nothing : {n : ℕ} {r : Stands} → Under n (leaves (ends r))
+nothing : {n : ℕ} {kind : TrapKind} {shared : Shared} {left : ℕ} → Under n (leaves (stands (trap kind) shared left))
 nothing = record { it = tt }
+
+unpaid : {n : ℕ} {shared : Shared} {left : ℕ} → Under n (leaves (stands out_of_gas shared left))
+unpaid = record { it = tt }
+
+at_falls : {s : State} (a : Ahead) → Under (bound a) (leaves (falls s a))
+at_falls a = record { it = le_self (bound a) }
 
 at_goes : {place : ℕ} {s : State} (a : Ahead) → Under (bound a) (goes place s a)
 at_goes a = record { it = le_self (bound a) }
@@ -117,7 +132,7 @@ at_calls a = record { it = le_self (bound a) }
 
 at_paid : (n : ℕ) (shared : Shared) (a : Ahead) (k : Ahead → Move) → ((b : Ahead) → Under (bound b) (k b)) → Under (bound a) (paid n shared a k)
 at_paid n shared a k h =
-    at_choice _ nothing (record { it = move_at_most-more (bound (spend a n)) (bound a) (k (spend a n)) (h (spend a n)).it (omega arith) })
+    at_choice _ unpaid (record { it = move_at_most-more (bound (spend a n)) (bound a) (k (spend a n)) (h (spend a n)).it (omega arith) })
 
 at_after : (place : ℕ) (s : State) (a : Ahead) (e : Effect) → Under (bound a) (after place s a e)
 at_after place s a (Ok new) = at_goes a
@@ -198,8 +213,13 @@ at_paid_for m targets below place (Const v) s a = at_after place s a (push below
 at_paid_for m targets below place (Block result end) s a = at_opens a
 at_paid_for m targets below place (Loop result end) s a = at_opens a
 at_paid_for m targets below place (If result els end) s a = at_opens_if place result els end s.operands s a
-at_paid_for m targets below place (Else end) s a = record { it = le_self (bound a) }
-at_paid_for m targets below place End s a = record { it = le_self (bound a) }
+at_paid_for m targets below place (Else end) s a = at_falls a
+at_paid_for m targets below place End s a = at_falls a
+
+pub under_move : (m : PlainModule) (targets : List ℕ) (below place : ℕ) (i : Option Instr) (s : State) (a : Ahead) → Under (bound a) (move m targets below place i s a)
+under_move m targets below place None s a = at_falls a
+under_move m targets below place (Some i) s a =
+    at_choice _ (at_falls a) (at_paid _ _ a (λ b. move_paid m targets below place i s b) (λ b. at_paid_for m targets below place i s b))
 
 record Below (n : ℕ) (o : Move) : Type 0 where
   pub it : MoveWithin n o

@@ -1,3 +1,4 @@
+pub mod Asks
 pub mod Blocks
 pub mod Calls
 pub mod Codes

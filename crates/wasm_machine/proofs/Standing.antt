@@ -1,5 +1,6 @@
 -- What a machine that stands between two acts comes to.
-use Rattle.std.proofs.Common.{◌≡◌, refl, sym, ◌∙◌, ap, ℕ, suc, ◌+◌, ◌≤◌, List, [], ◌∷◌, ◌++◌, length, reverse, Option, append_assoc, arith}
+use Rattle.std.proofs.Common.{◌≡◌, refl, sym, ◌∙◌, ap, ℕ, suc, ◌+◌, ◌≤◌, List, [], ◌∷◌, ◌++◌, length, reverse, Option, Result, Ok, Err, append_assoc, arith}
+use Rattle.std.specs.Prelude.{IfOk}
 use Rattle.gas_meter.specs.declared.schedule.Schedule.{Schedule}
 use Rattle.wasm_types.specs.declared.value.Value.{Value}
 use Rattle.wasm_types.specs.Plain.{PlainModule}
@@ -10,13 +11,18 @@ use Rattle.wasm_machine.specs.declared.frame.Caller.{Caller}
 use Rattle.wasm_machine.specs.declared.frame.Caller.TheVariants.{Host}
 use Rattle.wasm_machine.specs.declared.frame.Next.{Next}
 use Rattle.wasm_machine.specs.declared.frame.Next.TheVariants.{Enter, Give}
+use Rattle.wasm_machine.specs.declared.frame.Step.{Step}
+use Rattle.wasm_machine.specs.declared.frame.Step.TheVariants.{Runs, Stops}
+use Rattle.wasm_machine.specs.declared.stop.Stop.{Stop}
+use Rattle.wasm_machine.specs.declared.turn.Turn.{Turn}
+use Rattle.wasm_machine.specs.declared.turn.Turn.TheVariants as turns
 use Rattle.wasm_machine.specs.declared.state.State as states
-use Rattle.wasm_machine.specs.Acts.{Act, call, go, answer, memory, Standing, Stands, ready}
+use Rattle.wasm_machine.specs.Acts.{Act, call, go, answer, memory, Standing, Stands, ready, standing_of, IsAsk}
 use Rattle.wasm_machine.specs.Effects.{Shared}
 use Rattle.wasm_machine.specs.Exec.{Ahead, Outcome, Job, enter, host, hosted, going_on, run, at_last}
 use Rattle.wasm_machine.specs.Piles.{all, below, span}
 use Rattle.wasm_machine.specs.Values.{shared_of}
-use Rattle.wasm_machine.specs.Rests.{through, waiting, ahead, next_at, giving, pauses_at, HostsAfter}
+use Rattle.wasm_machine.specs.Rests.{Begins, AsksFrom, StepAsks, through, waiting, ahead, next_at, giving, pauses_at, HostsAfter}
 use Rattle.wasm_machine.specs.Machine.{next_on, rests_in, HostsIn}
 use Rattle.wasm_machine.specs.Phases.{TakesMemory, TakesCall, IsReady, IsAsked, called as host_called, answered, after_turn}
 use Rattle.wasm_machine.specs.Pauses.{standing_at}
@@ -202,3 +208,42 @@ pause_hosts Spent pause old new h e k = absurd h
 pub pause_stands : (m : PlainModule) (s : states.State) (pause : Pause) (left : ℕ) (costs : Schedule) → at_last (pauses_at m s pause (ahead left costs [])) ≡ standing_with (standing_at pause) (shared_of s.values) left
 pause_stands m s (pauses.Done v) left costs = waits_here m s _ left costs
 pause_stands m s (pauses.Asks i args) left costs = waits_here m s _ left costs
+
+-- ---- calls that have not begun
+
+pub call_ready : (phase : Phase) → TakesCall phase → IsReady (host_called phase)
+call_ready Idle h = tt
+call_ready Asked h = tt
+call_ready Ready h = absurd h
+call_ready ReadyOver h = absurd h
+call_ready AskedOver h = absurd h
+call_ready Spent h = absurd h
+
+pub pause_not_ready : (phase : Phase) (pause : Pause) → IsReady phase → IsReady (after_turn (standing_at pause) phase) → ⊥
+pause_not_ready Ready (pauses.Done v) h k = k
+pause_not_ready Ready (pauses.Asks i args) h k = k
+pause_not_ready ReadyOver (pauses.Done v) h k = k
+pause_not_ready ReadyOver (pauses.Asks i args) h k = k
+pause_not_ready Idle pause h k = absurd h
+pause_not_ready Asked pause h k = absurd h
+pause_not_ready AskedOver pause h k = absurd h
+pause_not_ready Spent pause h k = absurd h
+
+-- what asks has begun from what was next
+pub asks_from : (p q : Next) (pause : Pause) → (Begins p → Begins q) → AsksFrom p pause → AsksFrom q pause
+asks_from p q (pauses.Done v) h k = tt
+asks_from p q (pauses.Asks i args) h k = h k
+
+pub enter_asks : (func : ℕ) (r : Result Step Stop) → IfOk r (λ step. StepAsks (Enter func) step)
+enter_asks func (Ok (Runs frame)) = tt
+enter_asks func (Ok (Stops (pauses.Done v))) = tt
+enter_asks func (Ok (Stops (pauses.Asks i args))) = tt
+enter_asks func (Err stop) = tt
+
+-- a turn that is an ask comes of a pause that asks
+pub turn_begins : (next : Next) (turn : Turn) (pause : Pause) → standing_of turn ≡ standing_at pause → IsAsk turn → AsksFrom next pause → Begins next
+turn_begins next (turns.Ask i args) (pauses.Done v) e a h = cc
+turn_begins next (turns.Ask i args) (pauses.Asks j others) e a h = h
+turn_begins next (turns.Done v) pause e a h = absurd a
+turn_begins next (turns.Trap kind) pause e a h = absurd a
+turn_begins next turns.OutOfGas pause e a h = absurd a

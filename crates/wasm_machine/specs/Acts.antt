@@ -1,5 +1,5 @@
 -- What a host does with a machine, and what then stands.
-use Rattle.std.specs.Prelude.{ℕ, ◌+◌, List, Option}
+use Rattle.std.specs.Prelude.{ℕ, ◌+◌, List, Option, ⊤}
 use Rattle.gas_meter.specs.declared.schedule.Schedule.{Schedule}
 use Rattle.wasm_types.specs.declared.value.Value.{Value}
 use Rattle.wasm_machine.specs.declared.turn.TrapKind.{TrapKind}
@@ -49,3 +49,10 @@ standing_of (turns.Done value) = done value
 standing_of (turns.Trap kind) = trap kind
 standing_of turns.OutOfGas = out_of_gas
 standing_of (turns.Ask i args) = ask i args.items
+
+-- an import was called
+abbrev pub IsAsk : Turn → Type 0
+IsAsk (turns.Done value) = ⊥
+IsAsk (turns.Trap kind) = ⊥
+IsAsk turns.OutOfGas = ⊥
+IsAsk (turns.Ask i args) = ⊤

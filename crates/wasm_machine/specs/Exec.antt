@@ -6,12 +6,12 @@ use Rattle.gas_meter.specs.declared.schedule.Schedule.{Schedule}
 use Rattle.gas_meter.specs.Costs.{standard_schedule, cost, locals_cost, pages_cost}
 use Rattle.linear_memory.specs.Pages.{most_pages, pages_of, zeros}
 use Rattle.wasm_types.specs.declared.value.ValType.{ValType}
-use Rattle.wasm_types.specs.declared.value.ValType.TheVariants as val_types
 use Rattle.wasm_types.specs.declared.value.Value.{Value}
 use Rattle.wasm_types.specs.declared.value.Value.TheVariants.{I32}
 use Rattle.wasm_types.specs.declared.instr.Instr.{Instr}
 use Rattle.wasm_types.specs.declared.instr.Instr.TheVariants.{Op, Index, CallIndirect, BrTable, Mem, Const, Block, Loop, If, Else, End}
 use Rattle.wasm_types.specs.Plain.{PlainFuncType, PlainCode, PlainModule}
+use Rattle.wasm_types.specs.Gate.{are_same}
 use Rattle.wasm_machine.specs.declared.turn.TrapKind.{TrapKind}
 use Rattle.wasm_machine.specs.declared.turn.TrapKind.TheVariants.{Unreachable, TableBounds, TableEmpty, TableType, StackOverflow}
 use Rattle.wasm_machine.specs.declared.kind.PlainKind.{PlainKind}
@@ -140,35 +140,12 @@ calls_typed m func (Some t) s a =
 abbrev pub calls_func : PlainModule → ℕ → State → Ahead → Move
 calls_func m func s a = calls_typed m func (func_type m func) s a
 
-abbrev pub same_type : ValType → ValType → Bool
-same_type val_types.I32 val_types.I32 = true
-same_type val_types.I32 val_types.I64 = false
-same_type val_types.I64 val_types.I32 = false
-same_type val_types.I64 val_types.I64 = true
-
-abbrev pub same_results : Option ValType → Option ValType → Bool
-same_results None None = true
-same_results None (Some u) = false
-same_results (Some t) None = false
-same_results (Some t) (Some u) = same_type t u
-
-abbrev pub same_params : List ValType → List ValType → Bool
-same_params [] [] = true
-same_params [] (u ∷ us) = false
-same_params (t ∷ ts) [] = false
-same_params (t ∷ ts) (u ∷ us) = same_type t u && same_params ts us
-
-abbrev pub same_func_types : Option PlainFuncType → Option PlainFuncType → Bool
-same_func_types None u = false
-same_func_types (Some t) None = false
-same_func_types (Some t) (Some u) = same_params t.params u.params && same_results t.result u.result
-
 -- what a table has at a place: nothing, no function, or a function
 abbrev pub calls_cell : PlainModule → ℕ → Option (Option ℕ) → State → Ahead → Move
 calls_cell m ty None s a = leaves (trapped TableBounds s.shared a)
 calls_cell m ty (Some None) s a = leaves (trapped TableEmpty s.shared a)
 calls_cell m ty (Some (Some func)) s a =
-    if same_func_types (slice_get m.types ty) (func_type m func) then calls_func m func s a
+    if are_same (slice_get m.types ty) (func_type m func) then calls_func m func s a
     else leaves (trapped TableType s.shared a)
 
 abbrev pub calls_indirect : PlainModule → ℕ → List Value → State → Ahead → Move
@@ -243,18 +220,14 @@ abbrev pub closes : (Job → Outcome) → Frame → ℕ → Option ValType → �
 closes next f below result place outer (falls s a) = behind next f below place (handed result s.operands outer) s a
 closes next f below result place outer (jumps zero s a) = behind next f below place (handed result s.operands outer) s a
 closes next f below result place outer (jumps (suc label) s a) = jumps label s a
-closes next f below result place outer (returns s a) = returns s a
-closes next f below result place outer (gives v shared a) = gives v shared a
-closes next f below result place outer (ends r) = ends r
+closes next f below result place outer o = o
 
 -- a loop, after its instructions: a branch to its label is its next turn
 abbrev pub turns : (Job → Outcome) → Frame → ℕ → Option ValType → ℕ → ℕ → List Value → Outcome → Outcome
 turns next f below result start place outer (falls s a) = behind next f below place (handed result s.operands outer) s a
 turns next f below result start place outer (jumps zero s a) = next (turn f below result start place outer (with_operands s []) a)
 turns next f below result start place outer (jumps (suc label) s a) = jumps label s a
-turns next f below result start place outer (returns s a) = returns s a
-turns next f below result start place outer (gives v shared a) = gives v shared a
-turns next f below result start place outer (ends r) = ends r
+turns next f below result start place outer o = o
 
 -- ---- functions
 
@@ -269,8 +242,7 @@ finishes result (falls s a) = result_of result s.operands s a
 finishes result (jumps zero s a) = result_of result s.operands s a
 finishes result (jumps (suc label) s a) = trapped Unreachable s.shared a
 finishes result (returns s a) = result_of result s.operands s a
-finishes result (gives v shared a) = gives v shared a
-finishes result (ends r) = ends r
+finishes result o = o
 
 abbrev pub goes_on : (Job → Outcome) → Frame → ℕ → ℕ → State → Ahead → Effect → Outcome
 goes_on next f below place s a (Ok new) = next (from f below place new a)
@@ -280,10 +252,7 @@ goes_on next f below place s a (Err kind) = trapped kind s.shared a
 abbrev pub resumes : (Job → Outcome) → Frame → ℕ → ℕ → State → Outcome → Outcome
 resumes next f below place s (gives v shared a) =
     let new : State = record s { shared = shared } in goes_on next f below place new a (given below v new)
-resumes next f below place s (ends r) = ends r
-resumes next f below place s (falls inner a) = falls inner a
-resumes next f below place s (jumps label inner a) = jumps label inner a
-resumes next f below place s (returns inner a) = returns inner a
+resumes next f below place s o = o
 
 -- no more frames than this are under way
 abbrev pub most_frames : ℕ
@@ -315,10 +284,7 @@ going_on shared left _ then_on = stands ready shared left
 -- the host, after a call of its own
 abbrev pub hosted : (Job → Outcome) → ℕ → ℕ → Outcome → Outcome
 hosted next depth below (gives v shared a) = next (host depth below (done v) shared a)
-hosted next depth below (ends r) = ends r
-hosted next depth below (falls s a) = falls s a
-hosted next depth below (jumps label s a) = jumps label s a
-hosted next depth below (returns s a) = returns s a
+hosted next depth below o = o
 
 abbrev pub acts_on : (Job → Outcome) → ℕ → ℕ → Standing → Shared → ℕ → Schedule → List Act → Outcome
 acts_on next depth below standing shared left costs [] = stands standing shared left
@@ -358,9 +324,7 @@ deep m (suc n) job = step m (deep m n) job
 -- the gas that is left and that is still to be given, and the number of acts to come
 abbrev pub gas_of : Act → ℕ
 gas_of (go left costs) = left
-gas_of (call func args) = 0
-gas_of (answer v) = 0
-gas_of (memory bytes) = 0
+gas_of _ = 0
 
 abbrev pub still_to_come : List Act → ℕ
 still_to_come [] = 0
@@ -379,13 +343,17 @@ enough (host depth below standing shared a) = 4 * bound a + 1
 unfoldable pub run : PlainModule → Job → Outcome
 run m job = deep m (suc (enough job)) job
 
+-- nothing is under way
+abbrev pub rests : Shared → Ahead → Stands
+rests shared a = record { standing = idle; memory = shared.memory; globals = shared.globals; left = a.left }
+
 -- what stands in the end; an answer for which nothing waits comes to nothing
 abbrev pub at_last : Outcome → Stands
 at_last (ends r) = r
-at_last (gives v shared a) = record { standing = idle; memory = shared.memory; globals = shared.globals; left = a.left }
-at_last (falls s a) = record { standing = idle; memory = s.shared.memory; globals = s.shared.globals; left = a.left }
-at_last (jumps label s a) = record { standing = idle; memory = s.shared.memory; globals = s.shared.globals; left = a.left }
-at_last (returns s a) = record { standing = idle; memory = s.shared.memory; globals = s.shared.globals; left = a.left }
+at_last (gives v shared a) = rests shared a
+at_last (falls s a) = rests s.shared a
+at_last (jumps label s a) = rests s.shared a
+at_last (returns s a) = rests s.shared a
 
 -- what stands after these acts
 unfoldable pub exec : PlainModule → List Act → Stands

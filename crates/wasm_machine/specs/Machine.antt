@@ -13,11 +13,12 @@ use Rattle.wasm_machine.specs.declared.frame.Next.TheVariants.{Enter, Give}
 use Rattle.wasm_machine.specs.declared.state.State as states
 use Rattle.wasm_machine.specs.declared.turn.Phase.{Phase}
 use Rattle.wasm_machine.specs.declared.turn.Phase.TheVariants.{Idle, Ready, Asked, ReadyOver, AskedOver, Spent}
+use Rattle.wasm_machine.specs.Phases.{IsReady}
 use Rattle.wasm_machine.specs.Start.{table}
 use Rattle.wasm_machine.specs.Acts.{Act, Standing, Stands}
 use Rattle.wasm_machine.specs.Exec.{Ahead, Outcome, gives, stands, going_on, at_last, exec}
 use Rattle.wasm_machine.specs.Values.{shared_of}
-use Rattle.wasm_machine.specs.Rests.{hosts, entered, called_with, called, waiting}
+use Rattle.wasm_machine.specs.Rests.{Begins, hosts, entered, called_with, called, waiting}
 
 abbrev pub module_of : Machine → Module
 module_of machine = arc_value machine.module
@@ -30,6 +31,11 @@ memory_of machine = machine.state.values.memory
 
 abbrev pub phase_of : Machine → Phase
 phase_of machine = machine.phase
+
+-- The newest call has not begun: it was made, and the machine was not run since. An imported function that is called so is
+-- asked at once, without a charge.
+unfoldable pub HasUnbegunCall : Machine → Type 0
+HasUnbegunCall machine = IsReady machine.phase × Begins machine.state.next
 
 -- what stands after these acts on the machine's module
 abbrev pub stands_after : Machine → List Act → Stands

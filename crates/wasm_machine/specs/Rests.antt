@@ -107,6 +107,25 @@ abbrev pub next_weight : nexts.Next → ℕ
 next_weight (Enter func) = 2
 next_weight (Give value) = 0
 
+-- a call begins next
+abbrev pub Begins : nexts.Next → Type 0
+Begins (Enter func) = ⊤
+Begins (Give value) = ⊥
+
+-- an instruction called no function
+abbrev pub CallsNone : states.State → Event → Type 0
+CallsNone s (Goes place) = ⊤
+CallsNone s Leaves = ¬ Begins s.next
+
+-- only a call that begins asks
+abbrev pub AsksFrom : nexts.Next → Pause → Type 0
+AsksFrom next (pauses.Done value) = ⊤
+AsksFrom next (pauses.Asks i args) = Begins next
+
+abbrev pub StepAsks : nexts.Next → Step → Type 0
+StepAsks next (Runs frame) = ⊤
+StepAsks next (Stops pause) = AsksFrom next pause
+
 abbrev pub weight : states.State → Event → ℕ
 weight s (Goes place) = 1
 weight s Leaves = next_weight s.next

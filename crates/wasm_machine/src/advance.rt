@@ -9,7 +9,7 @@ ghost use Rattle.wasm_machine.specs.Exec.{Ahead, price, paid, after, grown, grow
 ghost use Rattle.wasm_machine.specs.Piles.{all, own};
 ghost use Rattle.wasm_machine.specs.Values.{beside, shared_of, seen};
 ghost use Rattle.wasm_machine.specs.Control.{Pops, Charges};
-ghost use Rattle.wasm_machine.specs.Rests.{weight, hosts, height, ahead, Leads, moved, running, IsBodyOf};
+ghost use Rattle.wasm_machine.specs.Rests.{weight, CallsNone, hosts, height, ahead, Leads, moved, running, IsBodyOf};
 
 use crate::frame::{Event, Frame, Next};
 use crate::functions::{Body, declared, func_type, has_type, item_at};
@@ -377,6 +377,7 @@ impl State {
             (λ a. plain_move (plain_kind op) op (beside self.old.values) next.place (seen self.old.values) a))) }
         ensures callers { self.new.callers ≡ self.old.callers }
         ensures sinks { IfOk result (λ e. 5 * meter.new.left + height self.new + weight self.new e ≤ 5 * meter.old.left + height self.old) }
+        ensures pays { OnOk result (meter.new.left < meter.old.left) }
         ensures left { meter.new.left ≤ meter.old.left }
         ensures used { meter.new.left + meter.new.used ≡ meter.old.left + meter.old.used }
     {
@@ -436,6 +437,7 @@ impl State {
             (λ a. index_move (plain_module code.now.module.now) (index_kind op) i (beside self.old.values) next.place (seen self.old.values) a))) }
         ensures hosts { OnOk result (hosts self.new.callers.items ≡ hosts self.old.callers.items) }
         ensures sinks { IfOk result (λ e. 5 * meter.new.left + height self.new + weight self.new e ≤ 5 * meter.old.left + height self.old) }
+        ensures pays { OnOk result (meter.new.left < meter.old.left) }
         ensures left { meter.new.left ≤ meter.old.left }
         ensures used { meter.new.left + meter.new.used ≡ meter.old.left + meter.old.used }
     {
@@ -498,6 +500,7 @@ impl State {
             (seen self.old.values) (ahead meter.old.left code.now.costs.now acts))) }
         ensures hosts { OnOk result (hosts self.new.callers.items ≡ hosts self.old.callers.items) }
         ensures sinks { IfOk result (λ e. 5 * meter.new.left + height self.new + weight self.new e ≤ 5 * meter.old.left + height self.old) }
+        ensures free { meter.new.left ≡ meter.old.left → IfOk result (λ e. CallsNone self.new e) }
         ensures left { meter.new.left ≤ meter.old.left }
         ensures used { meter.new.left + meter.new.used ≡ meter.old.left + meter.old.used }
     {
@@ -566,6 +569,7 @@ impl State {
             (running (plain_module code.now.module.now) self.old frame (ahead meter.old.left code.now.costs.now acts)) }
         ensures hosts { OnOk result (hosts self.new.callers.items ≡ hosts self.old.callers.items) }
         ensures sinks { IfOk result (λ e. 5 * meter.new.left + height self.new + weight self.new e ≤ 5 * meter.old.left + height self.old) }
+        ensures free { meter.new.left ≡ meter.old.left → IfOk result (λ e. CallsNone self.new e) }
         ensures left { meter.new.left ≤ meter.old.left }
         ensures used { meter.new.left + meter.new.used ≡ meter.old.left + meter.old.used }
     {

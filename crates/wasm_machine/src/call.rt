@@ -139,21 +139,21 @@ impl State {
     }
 
     /// A function is entered, with the operands as its arguments.
-    pub fn enter(&mut self, alloc: Global, module: &Module, func: u32) -> Result<Step, Stop>
-        ensures leads { (a : Ahead) → LeadsTo (plain_module module.now) result self.new a
-            (called_with (plain_module module.now) self.old (entered (plain_module module.now) self.old func a)) }
+    pub fn enter(&mut self, alloc: Global, m: &Module, func: u32) -> Result<Step, Stop>
+        ensures leads { (a : Ahead) → LeadsTo (plain_module m.now) result self.new a
+            (called_with (plain_module m.now) self.old (entered (plain_module m.now) self.old func a)) }
         ensures callers { self.new.callers ≡ self.old.callers }
         ensures hosts { IfOk result (λ step. StepHosts step (hosts self.old.callers.items) (hosts self.new.callers.items)) }
         ensures labels { OnOk result (length (all self.new.labels) ≤ length (all self.old.labels)) }
     {
-        let imported = imported(module);
+        let imported = imported(m);
         if (func as usize) < imported {
             let args = Vec::from_slice(alloc, self.values.operands.own_items())?;
             self.values.operands.clear();
             return Ok(Step::Stops(Pause::Asks { import: func, args }));
         }
-        match func_type(module, func) {
-            Some(ty) => self.begin(module, func as usize - imported, ty.result),
+        match func_type(m, func) {
+            Some(ty) => self.begin(m, func as usize - imported, ty.result),
             None => Err(MISPLACED),
         }
     }
@@ -167,16 +167,16 @@ impl State {
     }
 
     /// A function of the module begins.
-    fn begin(&mut self, module: &Module, code: usize, ty: Option<ValType>) -> Result<Step, Stop>
-        ensures leads { (a : Ahead) → LeadsTo (plain_module module.now) result self.new a
-            (called_with (plain_module module.now) self.old (enters_code (run (plain_module module.now)) self.old.depth
+    fn begin(&mut self, m: &Module, code: usize, ty: Option<ValType>) -> Result<Step, Stop>
+        ensures leads { (a : Ahead) → LeadsTo (plain_module m.now) result self.new a
+            (called_with (plain_module m.now) self.old (enters_code (run (plain_module m.now)) self.old.depth
             (length (all self.old.values.locals) + length (below self.old.values.operands)) ty
-            (code_at (plain_module module.now) code) (span self.old.values.operands) (shared_of self.old.values) a)) }
+            (code_at (plain_module m.now) code) (span self.old.values.operands) (shared_of self.old.values) a)) }
         ensures callers { self.new.callers ≡ self.old.callers }
         ensures hosts { IfOk result (λ step. StepHosts step (hosts self.old.callers.items) (hosts self.new.callers.items)) }
         ensures labels { OnOk result (length (all self.new.labels) ≤ length (all self.old.labels)) }
     {
-        let locals = locals_at(module, code);
+        let locals = locals_at(m, code);
         if !self.has_room(locals.len()) {
             return Err(Stop::Trap(TrapKind::StackOverflow));
         }

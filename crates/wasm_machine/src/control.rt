@@ -4,7 +4,7 @@ ghost use Rattle.wasm_machine.specs.Effects as effects;
 ghost use Rattle.wasm_machine.specs.Exec.{Ahead, opens, leaves, falls, jumps, returns, handed};
 ghost use Rattle.wasm_machine.specs.Piles.{all};
 ghost use Rattle.wasm_machine.specs.Values.{seen};
-ghost use Rattle.wasm_machine.specs.Rests.{weight, Leads, inside, moved, start_of, closing, finishing, HasTop};
+ghost use Rattle.wasm_machine.specs.Rests.{weight, CallsNone, Leads, inside, moved, start_of, closing, finishing, HasTop};
 ghost use Rattle.wasm_machine.specs.Control.{Hands, yielded};
 
 use crate::frame::{Event, Frame, Label, Next};
@@ -97,6 +97,7 @@ impl State {
             Leads m frame result self.new a (closing m self.old frame label inner a) }
         ensures callers { self.new.callers ≡ self.old.callers }
         ensures sinks { IfOk result (λ e. length (all self.new.labels) + weight self.new e ≤ length (all self.old.labels) + 1) }
+        ensures calls { IfOk result (λ e. CallsNone self.new e) }
     {
         self.values.operands.clear();
         self.values.operands.reset(label.floor);
@@ -111,6 +112,7 @@ impl State {
             Leads m frame result self.new a (finishing m self.old frame inner a) }
         ensures callers { self.new.callers ≡ self.old.callers }
         ensures sinks { IfOk result (λ e. length (all self.new.labels) + weight self.new e ≤ length (all self.old.labels)) }
+        ensures calls { IfOk result (λ e. CallsNone self.new e) }
     {
         self.values.operands.clear();
         self.values.locals.clear();
@@ -132,6 +134,7 @@ impl State {
             (moved m self.old frame (leaves (falls (seen self.old.values) a))) }
         ensures callers { self.new.callers ≡ self.old.callers }
         ensures sinks { IfOk result (λ e. length (all self.new.labels) + weight self.new e ≤ length (all self.old.labels)) }
+        ensures calls { IfOk result (λ e. CallsNone self.new e) }
     {
         let value = self.values.operands.top();
         match self.labels.pop() {

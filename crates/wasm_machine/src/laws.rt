@@ -1,10 +1,14 @@
 //! What follows from the definition of what a machine stands for. The functions here do nothing: their
 //! clauses are laws.
 
-ghost use Rattle.std.specs.Prelude.{◌≡◌, ◌≢◌, ℕ, ◌+◌, ◌++◌, List, [], ◌∷◌};
+ghost use Rattle.std.specs.Prelude.{◌≡◌, ◌≢◌, ℕ, ◌+◌, ◌<◌, ◌++◌, List, [], ◌∷◌};
 ghost use Rattle.gas_meter.specs.declared.schedule.Schedule.{Schedule};
-ghost use Rattle.wasm_machine.specs.Acts.{Act, go, out_of_gas, with_more_left, gas_aside};
-ghost use Rattle.wasm_machine.specs.Machine.{module_of, memory_of, phase_of, stands_after, StandsFor};
+ghost use Rattle.wasm_types.specs.declared.value.Value.{Value};
+ghost use Rattle.wasm_types.specs.Plain.{PlainModule};
+ghost use Rattle.wasm_machine.specs.Acts.{Act, go, out_of_gas, ask, with_more_left, gas_aside};
+ghost use Rattle.wasm_machine.specs.Start.{imported};
+ghost use Rattle.wasm_machine.specs.Exec.{exec};
+ghost use Rattle.wasm_machine.specs.Machine.{module_of, plain_of, memory_of, phase_of, stands_after, StandsFor};
 ghost use Rattle.wasm_machine.specs.Phases.{IsReady};
 
 use crate::machine::Machine;
@@ -33,4 +37,12 @@ pub fn more_gas_only_leaves_more()
         (stands_after machine (acts ++ go gas costs ∷ [])).standing ≢ out_of_gas →
         gas_aside (stands_after machine (acts ++ go (gas + more) costs ∷ later))
         ≡ gas_aside (stands_after machine (acts ++ go gas costs ∷ later)) }
+{}
+
+/// Whatever a host does, it is asked for nothing but imported functions.
+pub fn asks_name_imports()
+    ensures module { (m : PlainModule) (acts : List Act) (i : ℕ) (args : List Value) →
+        (exec m acts).standing ≡ ask i args → i < imported m }
+    ensures machine { (machine : Machine) (acts : List Act) (i : ℕ) (args : List Value) →
+        (stands_after machine acts).standing ≡ ask i args → i < imported (plain_of machine) }
 {}

@@ -22,6 +22,6 @@ mod tests;
 mod turn;
 mod values;
 
-pub use laws::{acts_tell_what_stands, more_gas_only_leaves_more};
+pub use laws::{acts_tell_what_stands, asks_name_imports, more_gas_only_leaves_more};
 pub use machine::Machine;
 pub use turn::{Phase, TrapKind, Turn};

@@ -1,7 +1,7 @@
-ghost use Rattle.std.specs.Prelude.{◌≡◌, ℕ, ◌+◌, ◌≤◌, ◌++◌, ◌∷◌, [], List, IfOk, OnOk, OnErr};
+ghost use Rattle.std.specs.Prelude.{◌≡◌, ℕ, ◌+◌, ◌<◌, ◌≤◌, ◌++◌, ◌∷◌, ◌↔◌, [], List, IfOk, OnOk, OnErr};
 ghost use Rattle.gas_meter.specs.Ranges.{IsInRange};
 ghost use Rattle.wasm_machine.specs.Acts as host;
-ghost use Rattle.wasm_machine.specs.Acts.{Act, standing_of};
+ghost use Rattle.wasm_machine.specs.Acts.{Act, IsAsk, standing_of};
 ghost use Rattle.wasm_machine.specs.Pauses.{standing_at, TurnsAt};
 ghost use Rattle.wasm_machine.specs.Phases.{TakesMemory, TakesCall, IsReady, IsAsked, called, answered, over, asking, after_turn};
 
@@ -31,17 +31,17 @@ pub struct Machine {
 impl Machine {
     ghost use Rattle.std.specs.Arc.{arc_value};
     ghost use Rattle.std.specs.Borrow.{sem};
-    ghost use Rattle.wasm_machine.specs.Machine.{module_of, phase_of, stands_after, StandsFor, LendsMemory, with_memory};
+    ghost use Rattle.wasm_machine.specs.Machine.{module_of, phase_of, HasUnbegunCall, stands_after, StandsFor, LendsMemory, with_memory};
 
     /// A machine in which no call is under way.
-    pub fn new(alloc: Global, module: Arc<Module>) -> Result<Machine, AllocError>
+    pub fn new(alloc: Global, m: Arc<Module>) -> Result<Machine, AllocError>
         ensures stands { IfOk result (λ machine. StandsFor machine []) }
-        ensures module { IfOk result (λ machine. module_of machine ≡ arc_value «module») }
+        ensures module { IfOk result (λ machine. module_of machine ≡ arc_value m) }
         ensures phase { IfOk result (λ machine. phase_of machine ≡ Phase.Idle) }
     {
-        let memory = start_memory(alloc, &module)?;
-        let globals = start_globals(alloc, &module)?;
-        let table = table(alloc, &module)?;
+        let memory = start_memory(alloc, &m)?;
+        let globals = start_globals(alloc, &m)?;
+        let table = table(alloc, &m)?;
         let values = Values {
             memory,
             globals,
@@ -56,7 +56,7 @@ impl Machine {
             next: Next::Give(None),
         };
         Ok(Machine {
-            module,
+            module: m,
             table,
             state,
             phase: Phase::Idle,
@@ -84,6 +84,7 @@ impl Machine {
             StandsFor (with_memory self.old bytes) (acts ++ host.memory bytes ∷ []) }
         ensures phase { (bytes : List ℕ) → phase_of (with_memory self.old bytes) ≡ phase_of self.old }
         ensures module { (bytes : List ℕ) → module_of (with_memory self.old bytes) ≡ module_of self.old }
+        ensures unbegun { (bytes : List ℕ) → HasUnbegunCall (with_memory self.old bytes) ↔ HasUnbegunCall self.old }
     {
         let state = &mut self.state;
         let values = &mut state.values;
@@ -96,6 +97,7 @@ impl Machine {
         ensures stands { OnOk result ((acts : List Act) → StandsFor self.old acts →
             StandsFor self.new (acts ++ host.call func args.now ∷ [])) }
         ensures phase { OnOk result (phase_of self.new ≡ called (phase_of self.old)) }
+        ensures unbegun { OnOk result (HasUnbegunCall self.new) }
         ensures err { OnErr result (phase_of self.new ≡ Phase.Spent) }
         ensures module { module_of self.new ≡ module_of self.old }
     {
@@ -113,6 +115,7 @@ impl Machine {
         ensures stands { (acts : List Act) → StandsFor self.old acts →
             StandsFor self.new (acts ++ host.answer answer ∷ []) }
         ensures phase { phase_of self.new ≡ answered (phase_of self.old) }
+        ensures begun { ¬ HasUnbegunCall self.new }
         ensures module { module_of self.new ≡ module_of self.old }
     {
         self.state.next = Next::Give(answer);
@@ -136,6 +139,8 @@ impl Machine {
             meter.new.left ≡ (stands_after self.old (acts ++ host.go meter.old.left costs.now ∷ [])).left) }
         ensures spends { meter.new.left ≤ meter.old.left }
         ensures used { meter.new.left + meter.new.used ≡ meter.old.left + meter.old.used }
+        ensures asks { IfOk result (λ turn. IsAsk turn → ¬ HasUnbegunCall self.old → meter.new.left < meter.old.left) }
+        ensures begun { ¬ HasUnbegunCall self.new }
         ensures phase { IfOk result (λ turn. phase_of self.new ≡ after_turn (standing_of turn) (phase_of self.old)) }
         ensures err { OnErr result (phase_of self.new ≡ Phase.Spent) }
         ensures module { module_of self.new ≡ module_of self.old }

@@ -4,7 +4,7 @@ ghost use Rattle.wasm_types.specs.Plain.{plain_module};
 ghost use Rattle.wasm_machine.specs.Acts.{Act};
 ghost use Rattle.wasm_machine.specs.Exec.{Ahead};
 ghost use Rattle.wasm_machine.specs.Start.{table, code_at};
-ghost use Rattle.wasm_machine.specs.Rests.{next_weight, hosts, height, ahead, running, LeadsTo, LeadsOut, Pauses, HostsAfter, StepHosts, IsBelow, next_at, IsBodyOf};
+ghost use Rattle.wasm_machine.specs.Rests.{next_weight, Begins, AsksFrom, StepAsks, hosts, height, ahead, running, LeadsTo, LeadsOut, Pauses, HostsAfter, StepHosts, IsBelow, next_at, IsBodyOf};
 
 use crate::advance::Code;
 use crate::frame::{Event, Frame, Next, Pause, Step};
@@ -17,14 +17,15 @@ use wasm_types::Module;
 
 impl State {
     /// What the newest call does next, up to where a function runs or the call stops.
-    fn step(&mut self, alloc: Global, module: &Module) -> Result<Step, Stop>
+    fn step(&mut self, alloc: Global, m: &Module) -> Result<Step, Stop>
         ensures leads { (a : Ahead) → 1 ≤ hosts self.old.callers.items →
-            LeadsTo (plain_module module.now) result self.new a (next_at (plain_module module.now) self.old self.old.next a) }
+            LeadsTo (plain_module m.now) result self.new a (next_at (plain_module m.now) self.old self.old.next a) }
         ensures hosts { IfOk result (λ step. StepHosts step (hosts self.old.callers.items) (hosts self.new.callers.items)) }
         ensures sinks { IfOk result (λ step. IsBelow step (height self.old + next_weight self.old.next) (height self.new)) }
+        ensures asks { IfOk result (λ step. StepAsks self.old.next step) }
     {
         match self.next {
-            Next::Enter(func) => self.enter(alloc, module, func),
+            Next::Enter(func) => self.enter(alloc, m, func),
             Next::Give(value) => match self.give(value)? {
                 Some(frame) => Ok(Step::Runs(frame)),
                 None => Ok(Step::Stops(Pause::Done(value))),
@@ -48,6 +49,7 @@ impl State {
             (running (plain_module code.now.module.now) self.old frame (ahead meter.old.left code.now.costs.now acts)) }
         ensures hosts { OnOk result (hosts self.new.callers.items ≡ hosts self.old.callers.items) }
         ensures sinks { OnOk result (5 * meter.new.left + height self.new + next_weight self.new.next ≤ 5 * meter.old.left + height self.old) }
+        ensures free { meter.new.left ≡ meter.old.left → OnOk result (¬ Begins self.new.next) }
         ensures left { meter.new.left ≤ meter.old.left }
         ensures used { meter.new.left + meter.new.used ≡ meter.old.left + meter.old.used }
     {
@@ -69,6 +71,7 @@ impl State {
             Pauses (plain_module code.now.module.now) result self.new (ahead meter.new.left code.now.costs.now acts)
             (next_at (plain_module code.now.module.now) self.old self.old.next (ahead meter.old.left code.now.costs.now acts)) }
         ensures hosts { IfOk result (λ pause. HostsAfter pause (hosts self.old.callers.items) (hosts self.new.callers.items)) }
+        ensures free { meter.new.left ≡ meter.old.left → IfOk result (λ pause. AsksFrom self.old.next pause) }
         ensures left { meter.new.left ≤ meter.old.left }
         ensures used { meter.new.left + meter.new.used ≡ meter.old.left + meter.old.used }
     {

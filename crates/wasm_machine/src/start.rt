@@ -44,11 +44,11 @@ fn first_pages(memories: &[Limits]) -> u32
 
 /// The memory that a module starts with.
 #[tactic(auto, unfolding(crate::specs::Start::start_memory))]
-pub(crate) fn start_memory(alloc: Global, module: &Module) -> Result<Memory, AllocError>
-    ensures { IfOk result (λ memory. memory ≡ start_memory (plain_module module.now)) }
+pub(crate) fn start_memory(alloc: Global, m: &Module) -> Result<Memory, AllocError>
+    ensures { IfOk result (λ memory. memory ≡ start_memory (plain_module m.now)) }
 {
-    let mut memory = Memory::new(alloc, first_pages(&module.memories))?;
-    for seg in &module.segs {
+    let mut memory = Memory::new(alloc, first_pages(&m.memories))?;
+    for seg in &m.segs {
         write_segment(&mut memory, seg);
     }
     Ok(memory)
@@ -56,11 +56,11 @@ pub(crate) fn start_memory(alloc: Global, module: &Module) -> Result<Memory, All
 
 /// The globals that a module starts with.
 #[tactic(auto, unfolding(crate::specs::Start::start_globals))]
-pub(crate) fn start_globals(alloc: Global, module: &Module) -> Result<Vec<Value>, AllocError>
-    ensures { IfOk result (λ globals. globals.items ≡ start_globals (plain_module module.now)) }
+pub(crate) fn start_globals(alloc: Global, m: &Module) -> Result<Vec<Value>, AllocError>
+    ensures { IfOk result (λ globals. globals.items ≡ start_globals (plain_module m.now)) }
 {
     let mut globals = Vec::new(alloc);
-    for global in &module.globals {
+    for global in &m.globals {
         globals.push(init_value(global.init))?;
     }
     Ok(globals)
@@ -99,11 +99,11 @@ fn no_funcs(alloc: Global, cells: u32) -> Result<Vec<Option<u32>>, AllocError>
 
 /// The functions in the table.
 #[tactic(auto, unfolding(crate::specs::Start::table))]
-pub(crate) fn table(alloc: Global, module: &Module) -> Result<Vec<Option<u32>>, AllocError>
-    ensures { IfOk result (λ cells. cells.items ≡ table (plain_module module.now)) }
+pub(crate) fn table(alloc: Global, m: &Module) -> Result<Vec<Option<u32>>, AllocError>
+    ensures { IfOk result (λ cells. cells.items ≡ table (plain_module m.now)) }
 {
-    let mut table = no_funcs(alloc, first_cells(&module.tables))?;
-    for elem in &module.elems {
+    let mut table = no_funcs(alloc, first_cells(&m.tables))?;
+    for elem in &m.elems {
         put_funcs(&mut table, offset_of(elem.offset), &elem.funcs);
     }
     Ok(table)

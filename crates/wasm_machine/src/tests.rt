@@ -1,9 +1,12 @@
-ghost use Rattle.std.specs.Prelude.{◌≡◌, IfOk, OnOk};
-ghost use Rattle.wasm_machine.specs.Machine.{phase_of};
+ghost use Rattle.std.specs.Prelude.{◌≡◌, ◌<◌, List, IfOk, OnOk};
+ghost use Rattle.wasm_machine.specs.Acts.{Act};
+ghost use Rattle.wasm_machine.specs.Start.{imported};
+ghost use Rattle.wasm_machine.specs.Machine.{plain_of, phase_of, StandsFor};
 
-use crate::{Machine, Phase, TrapKind, Turn};
+use crate::{Machine, Phase, TrapKind, Turn, asks_name_imports};
 use gas_meter::{Meter, Schedule};
 use std::alloc::{AllocError, Global};
+use std::process::Abort;
 use std::sync::Arc;
 use std::test::Fail;
 use wasm_types::{
@@ -108,33 +111,76 @@ fn machine(alloc: Global, imports: &[u32], functions: &[Func]) -> Result<Machine
     }
 }
 
-/// Whether the first function comes to this, and uses so much gas.
-fn comes_to(
+/// How a run is to end.
+#[derive(Clone, Copy)]
+enum End {
+    Gives(Option<u32>),
+    Traps(TrapKind),
+    RunsOut,
+}
+
+fn turn_at(end: End) -> Turn {
+    match end {
+        End::Gives(value) => Turn::Done(value.map(Value::I32)),
+        End::Traps(kind) => Turn::Trap(kind),
+        End::RunsOut => Turn::OutOfGas,
+    }
+}
+
+/// The first function is called with these arguments and so much gas. It ends so, and uses so much gas.
+fn expect(
+    rt: &impl Abort,
     alloc: Global,
     functions: &[Func],
     args: &[Value],
     gas: u64,
-    turn: Turn,
+    end: End,
     used: u64,
-) -> Result<bool, AllocError> {
+) -> Result<(), AllocError> {
     let mut machine = machine(alloc, &[], functions)?;
     let mut meter = Meter::new(gas);
     machine.call(0, args)?;
-    let came = machine.run(alloc, &mut meter, &Schedule::standard())?;
-    Ok(came == turn && meter.used() == used)
+    let turn = machine.run(alloc, &mut meter, &Schedule::standard())?;
+    assert_eq!(rt; turn, turn_at(end));
+    assert_eq!(rt; meter.used(), used, "{turn:?}");
+    Ok(())
 }
 
-/// The arguments of the import that a machine calls in its one call.
-fn asked(alloc: Global, machine: &mut Machine, meter: &mut Meter) -> Result<Vec<Value>, AllocError>
+/// The import that a machine calls in its one call, and the arguments.
+fn asked(
+    alloc: Global,
+    machine: &mut Machine,
+    meter: &mut Meter,
+) -> Result<(u32, Vec<Value>), AllocError>
     requires { phase_of machine.old ≡ Phase.Ready }
-    ensures { OnOk result (phase_of machine.new ≡ Phase.Asked) }
+    ensures phase { OnOk result (phase_of machine.new ≡ Phase.Asked) }
+    ensures import { IfOk result (λ asked. (acts : List Act) → StandsFor machine.old acts → asked.0 < imported (plain_of machine.old)) }
 {
+    asks_name_imports();
     match machine.run(alloc, meter, &Schedule::standard())? {
-        Turn::Ask { import: _, args } => Ok(args),
+        Turn::Ask { import, args } => Ok((import, args)),
         Turn::Done(_) => Err(AllocError),
         Turn::Trap(_) => Err(AllocError),
         Turn::OutOfGas => Err(AllocError),
     }
+}
+
+/// Goes on with a machine's one call up to its end, where each ask gets the same answer.
+fn run_to_end(
+    alloc: Global,
+    machine: &mut Machine,
+    meter: &mut Meter,
+    answer: Option<Value>,
+) -> Result<Turn, AllocError>
+    requires { phase_of machine.old ≡ Phase.Ready }
+{
+    let costs = Schedule::standard();
+    let mut turn = machine.run(alloc, meter, &costs)?;
+    while let Turn::Ask { import: _, args: _ } = turn {
+        machine.resume(answer);
+        turn = machine.run(alloc, meter, &costs)?;
+    }
+    Ok(turn)
 }
 
 /// What a call over an asked one gives.
@@ -226,8 +272,11 @@ fn allocate() -> [Instr; 18] {
     ]
 }
 
+const FULL: End = End::Traps(TrapKind::StackOverflow);
+
 #[test]
-fn a_loop_without_end_uses_all_gas(rt: HostRuntime) -> Result<(), Fail> {
+fn a_run_ends_as_it_is_to_for_what_is_charged(rt: HostRuntime) -> Result<(), Fail> {
+    let alloc = rt.alloc();
     let spin = [
         Instr::Loop {
             result: Some(ValType::I32),
@@ -237,68 +286,77 @@ fn a_loop_without_end_uses_all_gas(rt: HostRuntime) -> Result<(), Fail> {
         Instr::End,
     ];
     let args = [Value::I32(0), Value::I32(0), Value::I32(0)];
-    assert!(rt;
-        comes_to(
-            rt.alloc(),
-            &[(5, 0, &spin)],
-            &args,
-            100,
-            Turn::OutOfGas,
-            100
-        )?
-    );
-    Ok(())
-}
-
-#[test]
-fn a_call_that_asks_goes_on_behind_the_answer(rt: HostRuntime) -> Result<(), Fail> {
-    let execute = [i32_const(64), i32_const(80), CALL_0, LOCAL_GET_2];
-    let mut machine = machine(rt.alloc(), &[2], &[(5, 0, &execute)])?;
-    let mut meter = Meter::new(1000);
-    machine.call(1, &[Value::I32(1), Value::I32(2), Value::I32(3)])?;
-    let args = asked(rt.alloc(), &mut machine, &mut meter)?;
-    assert_eq!(rt;
-        args.as_slice(),
-        [Value::I32(64), Value::I32(80)].as_slice()
-    );
-    assert_eq!(rt; meter.used(), 12);
-    machine.resume(None);
-    let turn = machine.run(rt.alloc(), &mut meter, &Schedule::standard())?;
-    assert_eq!(rt; turn, Turn::Done(Some(Value::I32(3))));
-    assert_eq!(rt; meter.used(), 13);
-    Ok(())
-}
-
-#[test]
-fn a_region_is_allocated_for_21(rt: HostRuntime) -> Result<(), Fail> {
+    expect(&rt, alloc, &[(5, 0, &spin)], &args, 100, End::RunsOut, 100)?;
     let allocate = allocate();
-    let args = [Value::I32(5)];
-    let done = Turn::Done(Some(Value::I32(1024)));
-    assert!(rt; comes_to(rt.alloc(), &[(4, 0, &allocate)], &args, 21, done, 21)?);
-    assert!(rt;
-        comes_to(
-            rt.alloc(),
-            &[(4, 0, &allocate)],
-            &args,
-            20,
-            Turn::OutOfGas,
-            20
-        )?
-    );
+    for (gas, end) in [(21, End::Gives(Some(1024))), (20, End::RunsOut)] {
+        let args = [Value::I32(5)];
+        expect(&rt, alloc, &[(4, 0, &allocate)], &args, gas, end, gas)?;
+    }
+    // declared locals are charged before the call
+    for (locals, gas, end, used) in [
+        (7, 17, End::Gives(None), 17),
+        (7, 16, End::RunsOut, 16),
+        (131_073, 200_000, FULL, 131_083),
+    ] {
+        let functions: [Func; 2] = [(0, 0, &[CALL_1]), (0, locals, &[])];
+        expect(&rt, alloc, &functions, &[], gas, end, used)?;
+    }
+    // the numbers from the argument down to 1 are added
+    let sum = [
+        Instr::Loop {
+            result: None,
+            end: 10,
+        },
+        LOCAL_GET_1,
+        LOCAL_GET_0,
+        ADD,
+        LOCAL_SET_1,
+        LOCAL_GET_0,
+        i32_const(1),
+        SUB,
+        Instr::Index { op: 0x22, index: 0 },
+        BR_IF_0,
+        Instr::End,
+        LOCAL_GET_1,
+    ];
+    let args = [Value::I32(10)];
+    let added = End::Gives(Some(55));
+    expect(&rt, alloc, &[(4, 1, &sum)], &args, 1000, added, 92)?;
     Ok(())
 }
 
-/// A body of at most three instructions, its trap, and the gas that is used.
-type Trapping = ([Instr; 3], TrapKind, u64);
-
-fn all_trap(alloc: Global, bodies: &[Trapping]) -> Result<bool, AllocError> {
-    for (body, kind, used) in bodies {
-        let functions: [Func; 2] = [(0, 0, body), (1, 0, &[])];
-        if !comes_to(alloc, &functions, &[], 1000, Turn::Trap(*kind), *used)? {
-            return Ok(false);
-        }
+#[test]
+fn frames_end_at_512_and_values_at_131072(rt: HostRuntime) -> Result<(), Fail> {
+    let alloc = rt.alloc();
+    let dive = [LOCAL_GET_0, CALL_0];
+    let zero = [Value::I32(0)];
+    expect(&rt, alloc, &[(1, 0, &dive)], &zero, 10_000, FULL, 5632)?;
+    // calls itself as often as its argument says
+    let count = [
+        LOCAL_GET_0,
+        Instr::If {
+            result: None,
+            els: None,
+            end: 6,
+        },
+        LOCAL_GET_0,
+        i32_const(1),
+        SUB,
+        CALL_0,
+        Instr::End,
+    ];
+    for (times, end, used) in [(511, End::Gives(None), 7667), (512, FULL, 7680)] {
+        let args = [Value::I32(times)];
+        expect(&rt, alloc, &[(1, 0, &count)], &args, 100_000, end, used)?;
     }
-    Ok(true)
+    let push = [i32_const(7), Instr::Op(0x1A)];
+    for (locals, end, used) in [(131_071, End::Gives(None), 2), (131_072, FULL, 1)] {
+        expect(&rt, alloc, &[(0, locals, &push)], &[], 9, end, used)?;
+    }
+    for (locals, end) in [(131_072, End::Gives(None)), (131_073, FULL)] {
+        expect(&rt, alloc, &[(0, locals, &[])], &[], 9, end, 0)?;
+    }
+    Ok(())
 }
 
 #[test]
@@ -306,7 +364,7 @@ fn each_trap_keeps_its_charge(rt: HostRuntime) -> Result<(), Fail> {
     let indirect = Instr::CallIndirect { ty: 0 };
     let least = i32_const(0x8000_0000);
     let minus_one = i32_const(0xFFFF_FFFF);
-    let bodies: [Trapping; 10] = [
+    let bodies: [([Instr; 3], TrapKind, u64); 10] = [
         ([Instr::Op(0), GROW, GROW], TrapKind::Unreachable, 1),
         ([ADD, GROW, GROW], TrapKind::Unreachable, 1),
         (
@@ -338,147 +396,30 @@ fn each_trap_keeps_its_charge(rt: HostRuntime) -> Result<(), Fail> {
         ([i32_const(2), indirect, GROW], TrapKind::TableEmpty, 16),
         ([i32_const(0), indirect, GROW], TrapKind::TableType, 16),
     ];
-    assert!(rt; all_trap(rt.alloc(), &bodies)?);
-    Ok(())
-}
-
-#[test]
-fn frames_end_at_512(rt: HostRuntime) -> Result<(), Fail> {
-    let dive = [LOCAL_GET_0, CALL_0];
-    let full = Turn::Trap(TrapKind::StackOverflow);
-    assert!(rt;
-        comes_to(
-            rt.alloc(),
-            &[(1, 0, &dive)],
-            &[Value::I32(0)],
-            10_000,
-            full,
-            5632
-        )?
-    );
-    Ok(())
-}
-
-#[test]
-fn five_hundred_and_twelve_frames_are_allowed(rt: HostRuntime) -> Result<(), Fail> {
-    let count = [
-        LOCAL_GET_0,
-        Instr::If {
-            result: None,
-            els: None,
-            end: 6,
-        },
-        LOCAL_GET_0,
-        i32_const(1),
-        SUB,
-        CALL_0,
-        Instr::End,
-    ];
-    let done = Turn::Done(None);
-    let full = Turn::Trap(TrapKind::StackOverflow);
-    assert!(rt;
-        comes_to(
-            rt.alloc(),
-            &[(1, 0, &count)],
-            &[Value::I32(511)],
-            100_000,
-            done,
-            7667
-        )?
-    );
-    assert!(rt;
-        comes_to(
-            rt.alloc(),
-            &[(1, 0, &count)],
-            &[Value::I32(512)],
-            100_000,
-            full,
-            7680
-        )?
-    );
-    Ok(())
-}
-
-#[test]
-fn values_end_at_131072(rt: HostRuntime) -> Result<(), Fail> {
-    let push = [i32_const(7), Instr::Op(0x1A)];
-    let full = TrapKind::StackOverflow;
-    assert!(rt;
-        comes_to(
-            rt.alloc(),
-            &[(0, 131_071, &push)],
-            &[],
-            9,
-            Turn::Done(None),
-            2
-        )?
-    );
-    assert!(rt;
-        comes_to(
-            rt.alloc(),
-            &[(0, 131_072, &push)],
-            &[],
-            9,
-            Turn::Trap(full),
-            1
-        )?
-    );
-    assert!(rt;
-        comes_to(
-            rt.alloc(),
-            &[(0, 131_072, &[])],
-            &[],
-            9,
-            Turn::Done(None),
-            0
-        )?
-    );
-    assert!(rt;
-        comes_to(
-            rt.alloc(),
-            &[(0, 131_073, &[])],
-            &[],
-            9,
-            Turn::Trap(full),
-            0
-        )?
-    );
-    Ok(())
-}
-
-#[test]
-fn declared_locals_are_charged_before_a_call(rt: HostRuntime) -> Result<(), Fail> {
-    let few: [Func; 2] = [(0, 0, &[CALL_1]), (0, 7, &[])];
-    assert!(rt; comes_to(rt.alloc(), &few, &[], 17, Turn::Done(None), 17)?);
-    assert!(rt; comes_to(rt.alloc(), &few, &[], 16, Turn::OutOfGas, 16)?);
-    let many: [Func; 2] = [(0, 0, &[CALL_1]), (0, 131_073, &[])];
-    let full = Turn::Trap(TrapKind::StackOverflow);
-    assert!(rt; comes_to(rt.alloc(), &many, &[], 200_000, full, 131_083)?);
-    Ok(())
-}
-
-fn all_grow(alloc: Global, growths: &[(u32, u32, u64)]) -> Result<bool, AllocError> {
-    for (pages, answer, used) in growths {
-        let body = [i32_const(*pages), GROW];
-        let done = Turn::Done(Some(Value::I32(*answer)));
-        if !comes_to(alloc, &[(3, 0, &body)], &[], 600_000, done, *used)? {
-            return Ok(false);
-        }
+    for (body, kind, used) in &bodies {
+        let functions: [Func; 2] = [(0, 0, body), (1, 0, &[])];
+        let end = End::Traps(*kind);
+        expect(&rt, rt.alloc(), &functions, &[], 1000, end, *used)?;
     }
-    Ok(true)
+    Ok(())
 }
 
 #[test]
-fn memory_grows_to_512_pages(rt: HostRuntime) -> Result<(), Fail> {
+fn a_memory_grows_to_512_pages_and_a_table_of_branches_has_a_default(
+    rt: HostRuntime,
+) -> Result<(), Fail> {
     // pages asked for, the answer, the gas that is used
-    let growths = [
+    for (pages, answer, used) in [
         (0, 1, 11),
         (2, 1, 2011),
         (511, 1, 511_011),
         (512, 0xFFFF_FFFF, 11),
         (0xFFFF_FFFF, 0xFFFF_FFFF, 11),
-    ];
-    assert!(rt; all_grow(rt.alloc(), &growths)?);
+    ] {
+        let body = [i32_const(pages), GROW];
+        let end = End::Gives(Some(answer));
+        expect(&rt, rt.alloc(), &[(3, 0, &body)], &[], 600_000, end, used)?;
+    }
     let reads = [
         i32_const(1),
         GROW,
@@ -486,69 +427,9 @@ fn memory_grows_to_512_pages(rt: HostRuntime) -> Result<(), Fail> {
         i32_const(65_536),
         loads(0x28, 0),
     ];
-    let zero = Turn::Done(Some(Value::I32(0)));
-    assert!(rt; comes_to(rt.alloc(), &[(3, 0, &reads)], &[], 2000, zero, 1015)?);
-    Ok(())
-}
-
-#[test]
-fn a_loop_turns_until_its_branch_is_not_taken(rt: HostRuntime) -> Result<(), Fail> {
-    // The numbers from the argument down to 1 are added.
-    let sum = [
-        Instr::Loop {
-            result: None,
-            end: 10,
-        },
-        LOCAL_GET_1,
-        LOCAL_GET_0,
-        ADD,
-        LOCAL_SET_1,
-        LOCAL_GET_0,
-        i32_const(1),
-        SUB,
-        Instr::Index { op: 0x22, index: 0 },
-        BR_IF_0,
-        Instr::End,
-        LOCAL_GET_1,
-    ];
-    let done = Turn::Done(Some(Value::I32(55)));
-    assert!(rt;
-        comes_to(
-            rt.alloc(),
-            &[(4, 1, &sum)],
-            &[Value::I32(10)],
-            1000,
-            done,
-            92
-        )?
-    );
-    Ok(())
-}
-
-fn all_choose(
-    alloc: Global,
-    body: &[Instr],
-    choices: &[(u32, u32, u64)],
-) -> Result<bool, AllocError> {
-    for (number, answer, used) in choices {
-        let done = Turn::Done(Some(Value::I32(*answer)));
-        if !comes_to(
-            alloc,
-            &[(4, 0, body)],
-            &[Value::I32(*number)],
-            1000,
-            done,
-            *used,
-        )? {
-            return Ok(false);
-        }
-    }
-    Ok(true)
-}
-
-#[test]
-fn a_table_of_branches_has_a_default(rt: HostRuntime) -> Result<(), Fail> {
-    // 0 leaves the inner block, and each other number the outer one.
+    let zero = End::Gives(Some(0));
+    expect(&rt, rt.alloc(), &[(3, 0, &reads)], &[], 2000, zero, 1015)?;
+    // 0 leaves the inner block, and each other number the outer one
     let choose = [
         Instr::Block {
             result: None,
@@ -571,26 +452,66 @@ fn a_table_of_branches_has_a_default(rt: HostRuntime) -> Result<(), Fail> {
         Instr::End,
         LOCAL_GET_0,
     ];
-    let choices = [
+    for (number, answer, used) in [
         (0, 40, 9),
         (1, 1, 6),
         (2, 2, 6),
         (0xFFFF_FFFF, 0xFFFF_FFFF, 6),
-    ];
-    assert!(rt; all_choose(rt.alloc(), &choose, &choices)?);
+    ] {
+        let args = [Value::I32(number)];
+        let end = End::Gives(Some(answer));
+        expect(&rt, rt.alloc(), &[(4, 0, &choose)], &args, 1000, end, used)?;
+    }
     Ok(())
 }
 
 #[test]
-fn the_host_calls_an_import(rt: HostRuntime) -> Result<(), Fail> {
-    let mut machine = machine(rt.alloc(), &[4], &[])?;
-    let mut meter = Meter::new(0);
-    machine.call(0, &[Value::I32(5)])?;
-    let args = asked(rt.alloc(), &mut machine, &mut meter)?;
+fn a_call_that_asks_goes_on_behind_the_answer(rt: HostRuntime) -> Result<(), Fail> {
+    let execute = [i32_const(64), i32_const(80), CALL_0, LOCAL_GET_2];
+    let mut calling = machine(rt.alloc(), &[2], &[(5, 0, &execute)])?;
+    let mut meter = Meter::new(1000);
+    calling.call(1, &[Value::I32(1), Value::I32(2), Value::I32(3)])?;
+    let (import, args) = asked(rt.alloc(), &mut calling, &mut meter)?;
+    assert_eq!(rt; import, 0);
+    assert_eq!(rt;
+        args.as_slice(),
+        [Value::I32(64), Value::I32(80)].as_slice()
+    );
+    assert_eq!(rt; meter.used(), 12);
+    calling.resume(None);
+    let turn = calling.run(rt.alloc(), &mut meter, &Schedule::standard())?;
+    assert_eq!(rt; turn, Turn::Done(Some(Value::I32(3))));
+    assert_eq!(rt; meter.used(), 13);
+    // the host calls an import, for nothing
+    let mut direct = machine(rt.alloc(), &[4], &[])?;
+    let mut empty = Meter::new(0);
+    direct.call(0, &[Value::I32(5)])?;
+    let (_, args) = asked(rt.alloc(), &mut direct, &mut empty)?;
     assert_eq!(rt; args.as_slice(), [Value::I32(5)].as_slice());
-    machine.resume(Some(Value::I32(6)));
-    let turn = machine.run(rt.alloc(), &mut meter, &Schedule::standard())?;
+    direct.resume(Some(Value::I32(6)));
+    let turn = direct.run(rt.alloc(), &mut empty, &Schedule::standard())?;
     assert_eq!(rt; turn, Turn::Done(Some(Value::I32(6))));
+    Ok(())
+}
+
+#[test]
+fn each_ask_uses_gas(rt: HostRuntime) -> Result<(), Fail> {
+    // asks for ever, each turn for 11
+    let ask = [
+        Instr::Loop {
+            result: None,
+            end: 3,
+        },
+        CALL_0,
+        BR_0,
+        Instr::End,
+    ];
+    let mut machine = machine(rt.alloc(), &[0], &[(0, 0, &ask)])?;
+    let mut meter = Meter::new(100);
+    machine.call(1, &[])?;
+    let turn = run_to_end(rt.alloc(), &mut machine, &mut meter, None)?;
+    assert_eq!(rt; turn, Turn::OutOfGas);
+    assert_eq!(rt; meter.used(), 100);
     Ok(())
 }
 
@@ -627,26 +548,21 @@ fn another_call_is_made_over_an_asked_one(rt: HostRuntime) -> Result<(), Fail> {
     Ok(())
 }
 
-#[test]
-fn a_call_over_an_asked_one_can_end_both(rt: HostRuntime) -> Result<(), Fail> {
-    let mut meter = Meter::new(32);
-    let mut machine = asking(rt.alloc())?;
-    let _ = asked(rt.alloc(), &mut machine, &mut meter)?;
-    machine.call(2, &[Value::I32(5)])?;
-    let turn = machine.run(rt.alloc(), &mut meter, &Schedule::standard())?;
-    assert_eq!(rt; turn, Turn::OutOfGas);
-    assert_eq!(rt; meter.used(), 32);
-    Ok(())
+/// How such a machine ends where this function is called over the asked one, and the gas that is used.
+fn over(alloc: Global, func: u32, args: &[Value], gas: u64) -> Result<(Turn, u64), AllocError> {
+    let mut meter = Meter::new(gas);
+    let mut machine = asking(alloc)?;
+    let _ = asked(alloc, &mut machine, &mut meter)?;
+    machine.call(func, args)?;
+    let turn = machine.run(alloc, &mut meter, &Schedule::standard())?;
+    Ok((turn, meter.used()))
 }
 
 #[test]
-fn a_trap_over_an_asked_call_ends_both(rt: HostRuntime) -> Result<(), Fail> {
-    let mut meter = Meter::new(100);
-    let mut machine = asking(rt.alloc())?;
-    let _ = asked(rt.alloc(), &mut machine, &mut meter)?;
-    machine.call(3, &[])?;
-    let turn = machine.run(rt.alloc(), &mut meter, &Schedule::standard())?;
-    assert_eq!(rt; turn, Turn::Trap(TrapKind::Unreachable));
-    assert_eq!(rt; meter.used(), 13);
+fn a_call_over_an_asked_one_can_end_both(rt: HostRuntime) -> Result<(), Fail> {
+    let out = over(rt.alloc(), 2, &[Value::I32(5)], 32)?;
+    assert_eq!(rt; out, (Turn::OutOfGas, 32));
+    let trapped = over(rt.alloc(), 3, &[], 100)?;
+    assert_eq!(rt; trapped, (Turn::Trap(TrapKind::Unreachable), 13));
     Ok(())
 }

@@ -6,10 +6,10 @@ use Rattle.wasm_machine.proofs.functions.body_at.Goals as goal
 pub returns-in-Some : goal.returns-in-Some
 returns-in-Some c =
     let h = c.in-Some.ensures.lookup in
-    let read = code_read c.args.module.now c.deref.result.now c.args.code c.in-Some.code.now c.deref.ensures.value h.3.0 h.1 in
+    let read = code_read c.args.m.now c.deref.result.now c.args.code c.in-Some.code.now c.deref.ensures.value h.3.0 h.1 in
     (c.deref-in-Some.ensures.value ∙ sym (ap (λ (p : PlainCode). p.body) read), c.deref-in-Some-2.ensures.value ∙ sym (ap (λ (p : PlainCode). p.targets) read))
 
 pub returns-in-None : goal.returns-in-None
 returns-in-None c =
-    let past = code_past c.args.module.now c.deref.result.now c.args.code c.deref.ensures.value c.in-None.ensures.lookup.3 in
+    let past = code_past c.args.m.now c.deref.result.now c.args.code c.deref.ensures.value c.in-None.ensures.lookup.3 in
     (sym (ap (λ (p : PlainCode). p.body) past), sym (ap (λ (p : PlainCode). p.targets) past))

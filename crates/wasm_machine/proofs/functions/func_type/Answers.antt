@@ -6,10 +6,10 @@ use Rattle.wasm_machine.proofs.functions.func_type.Goals as goal
 
 pub returns-in-None : goal.returns-in-None
 unfolding func_type
-returns-in-None c = sym (ap (type_at (plain_module c.args.module.now)) (sym c.in-None.ensures))
+returns-in-None c = sym (ap (type_at (plain_module c.args.m.now)) (sym c.in-None.ensures))
 
 pub returns-in-Some : goal.returns-in-Some
 unfolding func_type
 returns-in-Some c =
     let h = c.get.ensures.lookup in
-    type_got c.args.module.now c.deref.result.now c.in-Some.ty c.get.result c.deref.ensures.value h.1 h.3 ∙ ap (type_at (plain_module c.args.module.now)) c.in-Some.ensures
+    type_got c.args.m.now c.deref.result.now c.in-Some.ty c.get.result c.deref.ensures.value h.1 h.3 ∙ ap (type_at (plain_module c.args.m.now)) c.in-Some.ensures

@@ -5,4 +5,4 @@ use Rattle.wasm_machine.specs.Start.{with_elements}
 use Rattle.wasm_machine.proofs.start.table.Given as goal
 
 abbrev pub invariant-loop-elem : goal.invariant-loop-elem
-invariant-loop-elem l = with_elements l.table.items (map plain_elem (drop l.elem-index l.module.elems.items)) ≡ with_elements l.initial.table.items (map plain_elem l.module.elems.items)
+invariant-loop-elem l = with_elements l.table.items (map plain_elem (drop l.elem-index l.m.elems.items)) ≡ with_elements l.initial.table.items (map plain_elem l.m.elems.items)

@@ -3,10 +3,10 @@ use Rattle.wasm_machine.specs.Acts as host
 use Rattle.wasm_machine.specs.Acts.{Act, Stands, Standing, idle}
 use Rattle.wasm_machine.specs.Exec.{at_last, exec}
 use Rattle.wasm_machine.specs.Rests.{hosts}
-use Rattle.wasm_machine.specs.Machine.{StandsFor, plain_of}
+use Rattle.wasm_machine.specs.Machine.{HasUnbegunCall, StandsFor, plain_of}
 use Rattle.wasm_machine.proofs.Calls.{hosts_host}
 use Rattle.wasm_machine.specs.declared.frame.Next.TheVariants.{Enter}
-use Rattle.wasm_machine.proofs.Standing.{with_next, one_more_act, call_rests, call_hosts}
+use Rattle.wasm_machine.proofs.Standing.{with_next, one_more_act, call_rests, call_hosts, call_ready}
 use Rattle.wasm_machine.proofs.machine.Machine.call.Goals as goal
 
 pub returns-clause-stands : goal.returns-clause-stands
@@ -25,3 +25,7 @@ returns-clause-stands c = λ acts r.
       hosts_in = call_hosts k.phase (hosts k.state.callers.items) (hosts c.begin_call.new.self.callers.items) c.requires (ap hosts e.callers ∙ hosts_host k.state.callers.items) r.hosts_in;
       cells = r.cells;
     })
+
+pub returns-clause-unbegun : goal.returns-clause-unbegun
+unfolding HasUnbegunCall
+returns-clause-unbegun c = rw c.called-self.ensures (call_ready c.args.self.now.phase c.requires, tt)

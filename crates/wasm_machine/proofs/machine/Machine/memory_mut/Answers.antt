@@ -3,12 +3,12 @@ use Rattle.std.proofs.lemmas.List.{append-nil}
 use Rattle.wasm_machine.specs.Acts as host
 use Rattle.wasm_machine.specs.Acts.{Act, Stands, Standing, idle}
 use Rattle.wasm_machine.specs.Exec.{at_last, exec}
-use Rattle.wasm_machine.specs.Machine.{with_memory, StandsFor, plain_of}
+use Rattle.wasm_machine.specs.Machine.{HasUnbegunCall, with_memory, StandsFor, plain_of}
 use Rattle.wasm_machine.proofs.Standing.{one_more_act, rests_memory, memory_rests}
 use Rattle.wasm_machine.proofs.machine.Machine.memory_mut.Goals as goal
 
 pub returns : goal.returns
-unfolding StandsFor with_memory
+unfolding HasUnbegunCall StandsFor with_memory
 returns c =
     let k = c.args.self.now in
     let m = plain_of k in (
@@ -26,5 +26,6 @@ returns c =
         };
         phase = λ bytes. refl;
         «module» = λ bytes. refl;
+        unbegun = λ bytes. (λ h. h, λ h. h);
       },
     )

@@ -14,7 +14,7 @@ use Rattle.wasm_machine.proofs.machine.Machine.new.Goals as goal
 pub returns-clause-stands : goal.returns-clause-stands
 unfolding StandsFor waiting
 returns-clause-stands c =
-    let m = plain_module (arc_value c.args.module) in
+    let m = plain_module (arc_value c.args.m) in
     let memory : c.in_ok-memory.memory ≡ start_memory m = c.in_ok-memory.ensures ∙ ap (λ x. start_memory (plain_module x)) c.deref.ensures in
     let globals : c.in_ok-globals.globals.items ≡ start_globals m = c.in_ok-globals.ensures ∙ ap (λ x. start_globals (plain_module x)) c.deref-2.ensures in
     let shared : Shared = record { memory = c.in_ok-memory.memory; globals = c.in_ok-globals.globals.items } in

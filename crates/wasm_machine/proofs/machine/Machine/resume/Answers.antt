@@ -3,7 +3,7 @@ use Rattle.wasm_machine.specs.Acts as host
 use Rattle.wasm_machine.specs.Acts.{Act, Stands, Standing, idle}
 use Rattle.wasm_machine.specs.Exec.{at_last, exec}
 use Rattle.wasm_machine.specs.Rests.{hosts}
-use Rattle.wasm_machine.specs.Machine.{StandsFor, plain_of}
+use Rattle.wasm_machine.specs.Machine.{HasUnbegunCall, StandsFor, plain_of}
 use Rattle.wasm_machine.proofs.Standing.{one_more_act, answer_rests, answer_hosts}
 use Rattle.wasm_machine.proofs.machine.Machine.resume.Goals as goal
 
@@ -20,3 +20,7 @@ returns-clause-stands c = λ acts r.
       hosts_in = answer_hosts k.phase (hosts k.state.callers.items) c.requires r.hosts_in;
       cells = r.cells;
     })
+
+pub returns-clause-begun : goal.returns-clause-begun
+unfolding HasUnbegunCall
+returns-clause-begun c = λ h. h.1

@@ -11,14 +11,14 @@ use Rattle.wasm_machine.proofs.state.State.begin.Goals as goal
 pub returns-then-not-has_room-clause-leads : goal.returns-then-not-has_room-clause-leads
 returns-then-not-has_room-clause-leads c = λ a.
     let s = c.args.self.now in
-    let m = plain_module c.args.module.now in
+    let m = plain_module c.args.m.now in
     begins_not m (reverse s.callers.items) s.depth (below s.values.operands) (all s.values.locals) (all s.labels) c.args.ty (code_at m c.args.code) (span s.values.operands) (shared_of s.values) a (rw (← c.locals_at-locals.ensures) (sym c.has_room.ensures ∙ c.if-not-has_room.true))
 
 pub returns-clause-leads : goal.returns-clause-leads
 unfolding running
 returns-clause-leads c = λ a.
     let s = c.args.self.now in
-    let m = plain_module c.args.module.now in
+    let m = plain_module c.args.m.now in
     let new : all c.push_zeros.new.locals ≡ all s.values.locals ++ span s.values.operands ++ map zero_of (code_at m c.args.code).locals =
     c.in_ok-push_zeros.ensures.all ∙ rw (c.in_ok-push_all.ensures.all, c.raise-2.ensures.all, c.own_items.ensures, c.locals_at-locals.ensures) refl in
     let fresh : span c.push_zeros.new.locals ≡ span s.values.operands ++ map zero_of (code_at m c.args.code).locals =

@@ -13,7 +13,7 @@ pub returns-then-func-imported-clause-leads : goal.returns-then-func-imported-cl
 unfolding waiting
 returns-then-func-imported-clause-leads c = λ a.
     let s = c.args.self.now in
-    let m = plain_module c.args.module.now in
+    let m = plain_module c.args.m.now in
     rw (c.in_ok-args.ensures.items, c.own_items.ensures, c.clear.ensures.all)
     (ap (λ o. through m (reverse s.callers.items) (below s.values.operands) (all s.values.locals) (all s.labels) s.depth o)
     (entered_import m s.depth (length (all s.values.locals) + length (below s.values.operands)) c.args.func (span s.values.operands) (shared_of s.values) a (rw c.imported-imported.ensures at c.if-func-imported.true)))
@@ -21,7 +21,7 @@ returns-then-func-imported-clause-leads c = λ a.
 pub returns-in-None-clause-leads : goal.returns-in-None-clause-leads
 returns-in-None-clause-leads c = λ a.
     let s = c.args.self.now in
-    let m = plain_module c.args.module.now in
+    let m = plain_module c.args.m.now in
     let none : func_type m c.args.func ≡ None = sym c.func_type.ensures ∙ ap (option_map (λ t. plain_func_type t.now)) c.in-None.is in
     ap (λ o. through m (reverse s.callers.items) (below s.values.operands) (all s.values.locals) (all s.labels) s.depth o)
     (entered_none m s.depth (length (all s.values.locals) + length (below s.values.operands)) c.args.func (span s.values.operands) (shared_of s.values) a (rw c.imported-imported.ensures at c.if-func-imported.false) none)
@@ -30,7 +30,7 @@ returns-in-None-clause-leads c = λ a.
 pub returns-in-Some-clause-leads : goal.returns-in-Some-clause-leads
 returns-in-Some-clause-leads c = λ a.
     let s = c.args.self.now in
-    let m = plain_module c.args.module.now in
+    let m = plain_module c.args.m.now in
     let some : func_type m c.args.func ≡ Some (plain_func_type c.in-Some.ty.now) = sym c.func_type.ensures ∙ ap (option_map (λ t. plain_func_type t.now)) c.in-Some.is in
     steps_from m _ _ a _ _
     (ap (λ o. through m (reverse s.callers.items) (below s.values.operands) (all s.values.locals) (all s.labels) s.depth o)
