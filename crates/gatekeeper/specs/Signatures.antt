@@ -1,3 +1,4 @@
+-- Not for readers of contracts: it serves the proofs of this crate alone.
 -- Types of functions as the code keeps them.
 use Rattle.std.specs.Prelude.{Bool, true, false}
 use Rattle.wasm_types.specs.declared.value.ValType.{ValType}

@@ -1,3 +1,4 @@
+-- Not for readers of contracts: it serves the proofs of this crate alone.
 -- The items of what runs and of what waits.
 use Rattle.std.specs.Prelude.{List, take, drop, reverse}
 use Rattle.wasm_machine.specs.declared.pile.Pile.{Pile}

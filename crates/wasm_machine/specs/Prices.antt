@@ -1,3 +1,4 @@
+-- Not for readers of contracts: it serves the proofs of this crate alone.
 -- Which instructions cost what the schedule says of plain ones.
 use Rattle.std.specs.Prelude.{Bool, true, false}
 use Rattle.wasm_machine.specs.declared.kind.PlainKind.{PlainKind}

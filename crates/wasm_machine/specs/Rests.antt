@@ -1,5 +1,5 @@
--- What comes of a machine that stands between two instructions or two acts. Whoever reads contracts needs none of this: what
--- a machine stands for is seen by the clauses of its calls alone.
+-- Not for readers of contracts: it serves the proofs of this crate alone. What a machine stands for is seen by the clauses of its calls.
+-- What comes of a machine that stands between two instructions or two acts.
 use Rattle.std.specs.Prelude.{◌≡◌, ℕ, suc, ◌+◌, ◌-◌, ◌*◌, ◌<◌, List, [], ◌∷◌, take, drop, reverse, length, slice_get, Option, Some, None, Result, Ok, Err, ⊤}
 use Rattle.gas_meter.specs.declared.schedule.Schedule.{Schedule}
 use Rattle.wasm_types.specs.declared.value.ValType.{ValType}

@@ -1,3 +1,4 @@
+-- Not for readers of contracts: it serves the proofs of this crate alone.
 -- What the values of a machine show of a state, and what an instruction did to them.
 use Rattle.std.specs.Prelude.{◌≡◌, ℕ, ◌+◌, length, Result, Ok, Err, ⊤}
 use Rattle.wasm_machine.specs.declared.stop.Stop.{Stop}

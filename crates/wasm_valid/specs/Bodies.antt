@@ -1,3 +1,4 @@
+-- Not for readers of contracts: it serves the proofs of this crate alone.
 -- What calls say of the bodies of a module.
 use Rattle.std.specs.Prelude.{ℕ, false, [], ◌∷◌, slice_get, Option, Some}
 use Rattle.wasm_types.specs.declared.kind.ValidKind.{ValidKind}

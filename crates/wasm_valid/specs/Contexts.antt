@@ -1,3 +1,4 @@
+-- Not for readers of contracts: it serves the proofs of this crate alone.
 -- What the code's contexts, open blocks and their labels are in the definitions.
 use Rattle.std.specs.Prelude.{◌++◌, map}
 use Rattle.wasm_types.specs.Plain.{plain_func_type}

@@ -1,3 +1,4 @@
+-- Not for readers of contracts: it serves the proofs of this crate alone.
 -- The blocks that are open, the innermost first, and the first fault of what still comes in them.
 use Rattle.std.specs.Prelude.{◌≡◌, ℕ, Bool, true, false, List, [], ◌∷◌, map, reverse, Option, None, Result, Ok, Err}
 use Rattle.wasm_types.specs.declared.value.ValType.{ValType}

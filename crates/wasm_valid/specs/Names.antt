@@ -1,3 +1,4 @@
+-- Not for readers of contracts: it serves the proofs of this crate alone.
 -- What a set of the names of exports has, and what a call says of an export.
 use Rattle.std.specs.Prelude.{◌≡◌, ℕ, Bool, List, None, Result, Ok, Err, ⊤}
 use Rattle.std.specs.Borrow.{Bor}

@@ -1,3 +1,4 @@
+-- Not for readers of contracts: it serves the proofs of this crate alone.
 -- The types of instructions as the code keeps them, and what its calls say by them.
 use Rattle.std.specs.Prelude.{◌≡◌, ℕ, true, false, Bool, nat_lt, List, [], ◌++◌, reverse, length, slice_get, option_to_list, Option, Some, None, Result, Ok, Err, ⊤}
 use Rattle.std.specs.Borrow.{Bor}

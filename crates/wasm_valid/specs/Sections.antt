@@ -1,3 +1,4 @@
+-- Not for readers of contracts: it serves the proofs of this crate alone.
 -- The two halves in which a module is looked at.
 use Rattle.std.specs.Prelude.{◌++◌, zip, Option}
 use Rattle.wasm_types.specs.declared.kind.ValidKind.TheVariants as kinds

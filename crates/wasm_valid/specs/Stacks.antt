@@ -1,3 +1,4 @@
+-- Not for readers of contracts: it serves the proofs of this crate alone.
 -- What the operands that the code keeps are in the definitions, and what its calls leave of them.
 use Rattle.std.specs.Prelude.{◌≡◌, reverse, Option, Result, Ok, Err, ⊤}
 use Rattle.wasm_types.specs.declared.value.ValType.{ValType}

@@ -1,3 +1,4 @@
+-- Not for readers of contracts: it serves the proofs of this crate alone.
 -- What one step over an instruction says of the first fault of what comes.
 use Rattle.std.specs.Prelude.{◌≡◌, Option, ℕ, ◌+◌, Bool, true, false, List, [], ◌∷◌, Some, None, Result, Ok, Err, ⊤}
 use Rattle.wasm_types.specs.declared.kind.ValidKind.{ValidKind}
