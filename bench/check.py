@@ -5,7 +5,9 @@ usage: bench/check.py SIZE_KB
        bench/check.py worst
 
 The second form times codes of at most 819,200 bytes that were made to be slow to check, each beside reading it, and
-ends with status 1 where one takes more than ten times as long as reading it. It needs the built programs crates/wasmnode/out/wasmnode and crates/bench_kernels/out/bench_kernels. Each time is
+ends with status 1 where one takes more than ten times as long as reading it.
+
+It needs the built programs crates/wasmnode/out/wasmnode and crates/bench_kernels/out/bench_kernels. Each time is
 the least processor time of five runs of a whole process; that of reading is of one reading more. The code is that of
 modules.py with what a contract has to export. wasm-validate of wabt is left out where it isn't on the machine.
 """
@@ -72,6 +74,7 @@ def contract(bodies):
 # ---- codes that are made to be slow to check
 
 MOST_BYTES = 819_200
+GZIP = b"\x1f\x8b\x08"
 UNREACHABLE, BR_TABLE = b"\x00", b"\x0e"
 CALL_INDIRECT, BR, IF, ELSE = b"\x11", b"\x0c", b"\x04\x40", b"\x05"
 
@@ -82,8 +85,10 @@ def body_of(instructions, locals_=()):
 
 
 def worst(types=(), bodies=((0, b""),), exports=(), tables=b"", elements=b"", segments=b"", imports=()):
-    """A contract with these types behind that of entry points and () to (), and with these bodies, each with the number of
-    its type among them, behind the functions that a host calls."""
+    """A contract that has these besides what a host calls.
+
+    A body stands beside the number of its type, which is 0 for () to () and then counts the types given.
+    """
     entries = [func_type(params, result) for _, params, result in ENTRY_POINTS]
     first = len(imports)
     used = [unsigned(at) for at in range(len(entries))] + [unsigned(len(entries) + ty) for ty, _ in bodies]
@@ -238,19 +243,23 @@ WORST = [
 ]
 
 
+def line_of(content):
+    return base64.b64encode(content) + b"\n"
+
+
 def time_worst():
+    """The time of a check is that of the process less that for as many bytes that are refused at their first three."""
     slow = False
-    nothing = least([NODE, "check"], b"\n")
     for name, make in WORST:
-        code_ = filled(make)
-        line = base64.b64encode(code_) + b"\n"
-        answer = run([NODE, "check"], line)[0]
-        one = least([KERNELS, "read_module", "1"], code_)
-        some = least([KERNELS, "read_module", "11"], code_)
+        content = filled(make)
+        answer = run([NODE, "check"], line_of(content))[0]
+        one = least([KERNELS, "read_module", "1"], content)
+        some = least([KERNELS, "read_module", "11"], content)
         reading = max((some - one) / 10, 1e-6)
-        checking = least([NODE, "check"], line) - nothing
+        checking = least([NODE, "check"], line_of(content)) - least([NODE, "check"], line_of(GZIP + content[3:]))
         slow = slow or checking > 10 * reading
-        print(f"{name:45} {len(code_):7} bytes  reading {reading * 1000:7.1f} ms  check {checking * 1000:7.1f} ms  {answer}")
+        times = f"reading {reading * 1000:7.1f} ms  check {checking * 1000:7.1f} ms"
+        print(f"{name:45} {len(content):7} bytes  {times}  {answer}")
     sys.exit(1 if slow else 0)
 
 
