@@ -61,8 +61,11 @@ fn expect_all(rt: &impl Abort, alloc: Global, table: &[(&str, &[u8], &str)]) -> 
 }
 
 #[test]
-fn the_first_fault_of_sections(rt: HostRuntime) -> Result<(), Fail> {
-    expect_all(&rt, rt.alloc(), SECTIONS)
+fn the_first_rule_that_sections_break(rt: HostRuntime) -> Result<(), Fail> {
+    for table in [SECTIONS, IMPORTS, SIZES] {
+        expect_all(&rt, rt.alloc(), table)?;
+    }
+    Ok(())
 }
 
 fn expect_bodies(
@@ -85,6 +88,70 @@ fn expect_bodies(
 fn the_first_fault_of_a_body(rt: HostRuntime) -> Result<(), Fail> {
     expect_bodies(&rt, rt.alloc(), BODIES)?;
     expect_bodies(&rt, rt.alloc(), UNREACHED)
+}
+
+/// What a row shows, the instructions that are repeated behind `unreachable`, how often, and what the
+/// gate says. Function 1 takes 2,000 i32.
+const CALLS: [(&str, &[u8], usize, &str); 4] = [
+    (
+        "no operands are left behind a branch",
+        &[0x10, 0x01],
+        2_000,
+        "MemoryMissing",
+    ),
+    (
+        "an i32 for each call",
+        &[0x41, 0x00, 0x10, 0x01],
+        1_000,
+        "MemoryMissing",
+    ),
+    (
+        "an i64 for a call",
+        &[0x42, 0x00, 0x10, 0x01],
+        1_000,
+        "Invalid(Mismatch)",
+    ),
+    (
+        "an i64 below an i32",
+        &[0x42, 0x00, 0x41, 0x00, 0x10, 0x01],
+        1,
+        "Invalid(Mismatch)",
+    ),
+];
+
+/// A code of a function that is `unreachable` and then so often calls, and one of many parameters.
+fn calling(alloc: Global, calls: &[u8], count: usize) -> Result<Vec<u8>, AllocError> {
+    let mut types = Vec::from_slice(alloc, &[0x02, 0x60, 0x00, 0x00, 0x60, 0xD0, 0x0F])?;
+    for _ in 0..2_000 {
+        types.push(0x7F)?;
+    }
+    types.push(0x00)?;
+    let mut body = Vec::from_slice(alloc, &[0x00, 0x00])?;
+    for _ in 0..count {
+        body.extend_from_slice(calls)?;
+    }
+    body.push(0x0B)?;
+    let len = body.len();
+    let low = (len % 128) as u8 | 0x80;
+    let high = (len / 128 % 128) as u8;
+    let mut codes = Vec::from_slice(alloc, &[0x02, low, high])?;
+    codes.extend_from_slice(&body)?;
+    codes.extend_from_slice(&[0x02, 0x00, 0x0B])?;
+    let mut code = behind_header(alloc, &[])?;
+    put_section(&mut code, 1, &types)?;
+    put_section(&mut code, 3, &[0x02, 0x00, 0x01])?;
+    put_section(&mut code, 10, &codes)?;
+    Ok(code)
+}
+
+#[test]
+fn calls_behind_a_branch(rt: HostRuntime) -> Result<(), Fail> {
+    let alloc = rt.alloc();
+    for (what, calls, count, wanted) in CALLS {
+        let code = calling(alloc, calls, count)?;
+        assert_eq!(rt; said(alloc, code, &[])?.as_str(), wanted, "{what}");
+    }
+    Ok(())
 }
 
 /// Sections behind the header, and the body, the place and the kind of the first fault.
@@ -130,12 +197,6 @@ fn the_place_of_a_fault(rt: HostRuntime) -> Result<(), Fail> {
     let module = echo(alloc)?;
     assert_eq!(rt; valid(alloc, &module), Ok(()));
     Ok(())
-}
-
-#[test]
-fn the_first_rule_on_imports_sizes_and_segments(rt: HostRuntime) -> Result<(), Fail> {
-    expect_all(&rt, rt.alloc(), IMPORTS)?;
-    expect_all(&rt, rt.alloc(), SIZES)
 }
 
 /// The number of imports, the last one of them, and what the gate says. The others are `abort`.
