@@ -6,9 +6,7 @@ ghost use Rattle.wasm_writer.specs.Shortest.{IsShortest};
 
 use crate::sections::{put_section, put_tables};
 use std::alloc::{AllocError, Global};
-use wasm_types::Module;
-
-const HEADER: [u8; 8] = [0x00, 0x61, 0x73, 0x6D, 0x01, 0x00, 0x00, 0x00];
+use wasm_types::{HEADER, Module};
 
 pub fn written(alloc: Global, wanted: &Module) -> Result<Vec<u8>, AllocError>
     ensures { IfOk result (λ bytes. bytes.items ≡ spelling_of (plain_module wanted.now)) }
