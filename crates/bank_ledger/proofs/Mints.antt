@@ -1,5 +1,5 @@
 -- What adding an amount to an account and to the supply does to the state.
-use Rattle.std.proofs.Common.{◌≡◌, ℕ, ◌+◌, ◌<◌, ◌≤◌, ◌^◌, List, refl, sym, subst, arith}
+use Rattle.std.proofs.Common.{◌≡◌, ℕ, ◌+◌, ◌<◌, ◌^◌, List, refl, subst, arith}
 use Rattle.coin_amounts.specs.Denom.{IsDenom}
 use Rattle.chain_records.specs.Keys.{PlainKey, IsAddress}
 use Rattle.chain_records.specs.Keys as keys

@@ -1,5 +1,5 @@
 -- The state of a chain that begins, and amounts that are added to it.
-use Rattle.std.specs.Prelude.{ℕ, ◌≡◌, ◌+◌, ◌<◌, ◌^◌, List, if◌then◌else◌}
+use Rattle.std.specs.Prelude.{ℕ, ◌≡◌, ◌+◌, List, if◌then◌else◌}
 use Rattle.std.specs.Str.{bytes_eq}
 use Rattle.chain_records.specs.Keys as keys
 use Rattle.chain_records.specs.Records.{PlainFacts}

@@ -1,5 +1,5 @@
 -- A map spells some state exactly where its entries are of keys and records, with facts, counters and whole codes.
-use Rattle.std.proofs.Common.{◌≡◌, ◌≢◌, ◌↔◌, ℕ, ◌<◌, ◌^◌, Bool, true, false, cond, ◌||◌, List, [], ◌∷◌, Option, Some, None, refl, sym, ap, subst, ◌∙◌, inl, inr, ◌⊎◌, lit<}
+use Rattle.std.proofs.Common.{◌≡◌, ◌≢◌, ◌↔◌, ℕ, ◌<◌, ◌^◌, Bool, true, false, cond, ◌||◌, List, [], ◌∷◌, Option, Some, None, refl, sym, ap, subst, ◌∙◌, inl, inr, ◌⊎◌}
 use Rattle.std.specs.Option.{option_map, is_some}
 use Rattle.std.specs.List.{list_any}
 use Rattle.std.specs.declared.cmp.Ordering.{Ordering}
@@ -11,11 +11,11 @@ use Rattle.std.specs.FinMap.{FinMap, get, insert, empty, keys as places, IsAntis
 use Rattle.std.proofs.lemmas.Cmp.{nat_cmp_total, nat_list_cmp_total, tied_itself}
 use Rattle.std.proofs.lemmas.Map.Lookups.{exact_bytes}
 use Rattle.chain_records.specs.declared.record.Counters.{Counters}
-use Rattle.chain_records.specs.Keys.{PlainKey, key_bytes, IsKey, IsKeyOf}
+use Rattle.chain_records.specs.Keys.{PlainKey, key_bytes, IsKey}
 use Rattle.chain_records.specs.Keys as keys
 use Rattle.chain_records.specs.Reading.{◌>>=◌}
 use Rattle.chain_records.specs.KeyReading.{key_of}
-use Rattle.chain_records.specs.Records.{PlainFacts, PlainCodeInfo, PlainContract, PlainStored, facts, counters, amount, code_bytes, code_info, mark, contract, value, stored_bytes, IsRecord, IsRecordUnder, Belongs}
+use Rattle.chain_records.specs.Records.{PlainFacts, PlainCodeInfo, PlainContract, PlainStored, facts, counters, amount, code_bytes, code_info, mark, contract, value, stored_bytes, IsRecord, Belongs}
 use Rattle.chain_records.specs.State.{Bytes, Addressed, addressed_cmp, Code, State, entry_of, Spells, IsFound}
 use Rattle.chain_records.specs.Spelling.{IsEntry, IsThere, IsSpelling}
 use Rattle.chain_records.proofs.Pieces.{bind_some}

@@ -1,20 +1,19 @@
 -- A map of bytes spells at most one state, and what it has under a key is the record of that state.
-use Rattle.std.proofs.Common.{◌≡◌, ◌≢◌, ℕ, Bool, true, false, cond, List, Option, Some, None, refl, sym, ap, subst, ◌∙◌, inl, inr, ◌⊎◌}
+use Rattle.std.proofs.Common.{◌≡◌, ◌≢◌, ℕ, true, false, List, Option, Some, None, refl, sym, ap, subst, ◌∙◌, inl, inr, ◌⊎◌}
 use Rattle.std.specs.Option.{option_map}
 use Rattle.std.specs.declared.cmp.Ordering.{Ordering}
 use Rattle.std.specs.declared.cmp.Ordering.TheVariants.{Less, Equal, Greater}
 use Rattle.std.specs.Ordering.{nat_cmp, is_eq, eq_by_cmp}
 use Rattle.std.specs.Cmp.Lexicographic.{slice_cmp}
 use Rattle.std.specs.Cmp.{IsTotalOrder}
-use Rattle.std.specs.FinMap.{get, insert, remove, IsAntisymmetric, same_map, get-insert, get-remove, nat_cmp-IsAntisymmetric}
+use Rattle.std.specs.FinMap.{get, IsAntisymmetric, same_map, nat_cmp-IsAntisymmetric}
 use Rattle.std.proofs.lemmas.Cmp.{nat_cmp_total, nat_list_cmp_total, on_total, then_total, tied_itself}
 use Rattle.std.proofs.lemmas.Map.Lookups.{exact_bytes, exact_pairs}
 use Rattle.std.proofs.lemmas.Bool.Decides.{eqb_tells}
 use Rattle.chain_records.specs.Keys.{PlainKey, key_bytes, IsKey, IsKeyOf}
 use Rattle.chain_records.specs.Keys as keys
-use Rattle.chain_records.specs.Records.{PlainStored, facts, counters, amount, code_bytes, code_info, mark, contract, value, stored_bytes, IsRecord, Belongs}
-use Rattle.chain_records.specs.State.{Bytes, Addressed, addressed_cmp, Code, State, entry_of, Spells, IsFound, ChangesOnly}
-use Rattle.chain_records.proofs.KeyLaws.{same_key}
+use Rattle.chain_records.specs.Records.{PlainStored, facts, counters, amount, code_bytes, code_info, mark, contract, value, stored_bytes, Belongs}
+use Rattle.chain_records.specs.State.{Bytes, Addressed, addressed_cmp, Code, State, entry_of, Spells, IsFound}
 use Rattle.chain_records.proofs.RecordLaws.{same_record}
 
 -- ---- orders

@@ -1,3 +1,4 @@
+-- Not for readers of contracts: it serves the proofs of this crate alone.
 -- What writing a value adds to the bytes that were there.
 use Rattle.std.specs.Prelude.{ℕ, ◌≡◌, List, ◌++◌}
 

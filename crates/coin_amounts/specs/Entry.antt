@@ -1,3 +1,4 @@
+-- Not for readers of contracts: it serves the proofs of this crate alone.
 -- An entry of a map from denoms to amounts, as a coin.
 use Rattle.std.specs.Prelude.{ℕ, String}
 use Rattle.std.specs.declared.alloc.Global.{Global}

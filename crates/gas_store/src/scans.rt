@@ -2,7 +2,7 @@ ghost use Rattle.std.specs.Prelude.{◌≡◌, ◌+◌, ◌++◌, ◌∷◌, [],
 ghost use Rattle.std.specs.Option.{option_copied};
 ghost use Rattle.kv_layers.specs.Bytes.{Bytes};
 ghost use Rattle.kv_layers.specs.Layers.{depth, Turns};
-ghost use Rattle.kv_layers.specs.Plain.{value_view, entry_view};
+ghost use Rattle.kv_layers.specs.Plain.{entry_view};
 ghost use Rattle.gas_store.specs.Ends.{end_of};
 ghost use Rattle.gas_store.specs.Places.{lower_place, upper_place};
 ghost use Rattle.gas_store.specs.Scans.{next_of, narrowed};

@@ -72,7 +72,7 @@ impl Bounds {
         }
     }
 
-    /// Leaves only the keys that come after the one given.
+    /// Leaves only the keys that come after the one given, which is to lie within the bounds.
     pub fn narrow_past(&mut self, key: Vec<u8>, order: Order) -> Result<(), AllocError>
         ensures lo { OnOk result (lower self.new ≡ narrowed_lower order (lower self.old) key.items) }
         ensures hi { OnOk result (upper self.new ≡ narrowed_upper order (upper self.old) key.items) }

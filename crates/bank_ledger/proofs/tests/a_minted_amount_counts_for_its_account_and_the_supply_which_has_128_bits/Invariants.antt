@@ -3,4 +3,4 @@ use Rattle.bank_ledger.specs.Minted.{HasLawfulRecords}
 use Rattle.bank_ledger.proofs.tests.a_minted_amount_counts_for_its_account_and_the_supply_which_has_128_bits.Given as goal
 
 abbrev pub invariant-loop-amount : goal.invariant-loop-amount
-invariant-loop-amount l = HasLawfulRecords l.plain
+invariant-loop-amount g l = HasLawfulRecords l.plain
