@@ -7,11 +7,11 @@ use Rattle.wasm_types.specs.declared.value.ValType.{ValType}
 use Rattle.wasm_types.specs.declared.value.Value.{Value}
 use Rattle.wasm_types.specs.Plain.{PlainFuncType, PlainCode, PlainModule}
 use Rattle.wasm_machine.specs.declared.turn.TrapKind.TheVariants.{StackOverflow}
-use Rattle.wasm_machine.specs.Acts.{Act, call, go, answer, memory, Standing, Stands, idle, ready, done, trap, out_of_gas, ask}
+use Rattle.wasm_machine.specs.Acts.{Act, call, go, answer, memory, Standing, idle, ready, done, trap, out_of_gas, ask}
 use Rattle.wasm_machine.specs.Effects.{Shared, State, Effect, given, with_operands, most_values}
 use Rattle.wasm_machine.specs.Start.{start_memory, start_globals, imported, func_type, code_at, zero_of}
-use Rattle.wasm_machine.specs.Exec.{Ahead, Outcome, falls, jumps, returns, gives, ends, stands, trapped, Move, goes, opens, calls, leaves, move, Frame, Job, from, turn, enter, host, handed, behind, closes, turns, result_of, finishes, goes_on, resumes, most_frames, enters_code, enters_typed, enters, going_on, hosted, acts_on, follows, step, deep, bound, enough, run, at_last, exec}
-use Rattle.wasm_machine.proofs.Fuel.{AsksNone, AtMost, MoveAtMost, Under, under_move}
+use Rattle.wasm_machine.specs.Exec.{Ahead, Outcome, falls, jumps, returns, gives, ends, trapped, Move, goes, opens, calls, leaves, Frame, Job, from, turn, enter, host, handed, behind, closes, turns, result_of, finishes, goes_on, resumes, most_frames, enters_typed, enters, going_on, hosted, acts_on, follows, step, deep, bound, enough, run, at_last, exec}
+use Rattle.wasm_machine.proofs.Fuel.{AsksNone, AtMost, MoveAtMost, under_move}
 
 abbrev NamesImport : PlainModule → Standing → Type 0
 NamesImport m idle = ⊤

@@ -16,7 +16,7 @@ use Rattle.wasm_machine.specs.declared.kind.PlainKind.{PlainKind}
 use Rattle.wasm_machine.specs.declared.kind.PlainKind.TheVariants as plain
 use Rattle.wasm_machine.specs.declared.kind.IndexKind.{IndexKind}
 use Rattle.wasm_machine.specs.declared.kind.IndexKind.TheVariants as indexed
-use Rattle.wasm_machine.specs.Acts.{Act, call, go, answer, memory, Standing, Stands, idle, ready, done, trap, out_of_gas, ask}
+use Rattle.wasm_machine.specs.Acts.{Act, call, go, answer, memory, Standing, idle, ready, done, trap, out_of_gas, ask}
 use Rattle.wasm_machine.specs.Effects.{Shared, State, Effect, given, with_operands, with_memory, most_values, push, plain_effect, index_effect, memory_effect}
 use Rattle.wasm_machine.specs.Kinds.{plain_kind, index_kind, width, opcode, is_marker}
 use Rattle.wasm_machine.specs.Start.{imported, func_type, code_at, zero_of}

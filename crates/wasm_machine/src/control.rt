@@ -1,7 +1,7 @@
 ghost use Rattle.std.specs.Prelude.{◌≡◌, ◌+◌, ◌≤◌, length, Some, None, IfOk, if◌then◌else◌};
 ghost use Rattle.wasm_types.specs.Plain.{PlainModule};
 ghost use Rattle.wasm_machine.specs.Effects as effects;
-ghost use Rattle.wasm_machine.specs.Exec.{Ahead, opens, leaves, falls, jumps, returns, handed};
+ghost use Rattle.wasm_machine.specs.Exec.{Ahead, opens, leaves, falls, jumps, returns};
 ghost use Rattle.wasm_machine.specs.Piles.{all};
 ghost use Rattle.wasm_machine.specs.Values.{seen};
 ghost use Rattle.wasm_machine.specs.Rests.{weight, CallsNone, Leads, inside, moved, start_of, closing, finishing, HasTop};

@@ -1,6 +1,6 @@
-ghost use Rattle.std.specs.Prelude.{◌≡◌, ◌<◌, OnSome, length, slice_get};
+ghost use Rattle.std.specs.Prelude.{◌≡◌, ◌<◌, length, slice_get};
 ghost use Rattle.std.specs.Option.{option_map};
-ghost use Rattle.wasm_types.specs.Plain.{plain_module, plain_func_type, plain_code};
+ghost use Rattle.wasm_types.specs.Plain.{plain_module, plain_func_type};
 ghost use Rattle.wasm_types.specs.Gate.{are_same};
 ghost use Rattle.wasm_machine.specs.Start.{imported, desc_type, type_index, func_type, code_at};
 ghost use Rattle.wasm_machine.specs.Rests.{IsBodyOf};

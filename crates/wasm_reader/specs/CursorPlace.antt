@@ -1,3 +1,4 @@
+-- Not for readers of contracts: it serves the proofs of this crate alone.
 -- The place at which a cursor stands.
 use Rattle.wasm_types.specs.Place.{Place}
 use Rattle.wasm_types.specs.Number.{place_at}

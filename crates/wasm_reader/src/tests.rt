@@ -1,10 +1,7 @@
 use super::*;
 use std::alloc::{AllocError, Global};
-use std::process::Abort;
 use std::test::Fail;
-use wasm_types::{Instr, ReadKind, ValType, Value};
-
-const HEADER: [u8; 8] = [0x00, 0x61, 0x73, 0x6D, 0x01, 0x00, 0x00, 0x00];
+use wasm_types::{HEADER, Instr, ReadKind, ValType, Value};
 
 /// Behind the header: two custom sections, and one of each other sort.
 const SECTIONS: [u8; 115] = [
@@ -63,9 +60,10 @@ fn behind_header(alloc: Global, rest: &[u8]) -> Result<Vec<u8>, AllocError> {
 }
 
 #[test]
-fn a_module_with_all_sections(rt: HostRuntime) -> Result<(), Fail> {
-    let bytes = behind_header(rt.alloc(), &SECTIONS)?;
-    let module = read(rt.alloc(), &bytes)?;
+fn modules_are_read_and_spelled(rt: HostRuntime) -> Result<(), Fail> {
+    let alloc = rt.alloc();
+    let bytes = behind_header(alloc, &SECTIONS)?;
+    let module = read(alloc, &bytes)?;
     assert_eq!(rt; module.types.len(), 2);
     assert_eq!(rt; module.imports.len(), 1);
     assert_eq!(rt; module.funcs.as_slice(), [0].as_slice());
@@ -75,17 +73,13 @@ fn a_module_with_all_sections(rt: HostRuntime) -> Result<(), Fail> {
     assert_eq!(rt; module.codes.len(), 1);
     assert_eq!(rt; module.codes[0].body.as_slice(), BODY.as_slice());
     assert_eq!(rt; module.codes[0].targets.as_slice(), [0].as_slice());
-    assert!(rt; spells(rt.alloc(), &module, &bytes)?);
-    assert!(rt; !spells(rt.alloc(), &module, &HEADER)?);
-    Ok(())
-}
+    assert!(rt; spells(alloc, &module, &bytes)?);
+    assert!(rt; !spells(alloc, &module, &HEADER)?);
 
-#[test]
-fn the_header_alone_is_the_module_without_parts(rt: HostRuntime) -> Result<(), Fail> {
-    let module = read(rt.alloc(), &HEADER)?;
+    let module = read(alloc, &HEADER)?;
     assert!(rt; module.types.is_empty() && module.codes.is_empty() && module.segs.is_empty());
-    assert!(rt; spells(rt.alloc(), &module, &HEADER)?);
-    assert!(rt; !spells(rt.alloc(), &module, &[])?);
+    assert!(rt; spells(alloc, &module, &HEADER)?);
+    assert!(rt; !spells(alloc, &module, &[])?);
     Ok(())
 }
 
@@ -108,38 +102,16 @@ fn deep_nesting_takes_no_stack(rt: HostRuntime) -> Result<(), Fail> {
     Ok(())
 }
 
-fn assert_faults(
-    rt: &impl Abort,
-    alloc: Global,
-    cases: &[(&[u8], usize, ReadKind)],
-) -> Result<(), Fail> {
-    for (rest, at, kind) in cases {
-        let bytes = behind_header(alloc, rest)?;
-        let fault = ReadStop::Fault {
-            at: *at,
-            kind: *kind,
-        };
-        assert_eq!(rt; read(alloc, &bytes).err(), Some(fault), "at {rest:?}");
-    }
-    Ok(())
-}
-
-#[test]
-fn faults_of_the_header(rt: HostRuntime) {
-    let cases: [(&[u8], ReadKind); 4] = [
-        (&[], ReadKind::Cut),
-        (&[0x00, 0x61, 0x73], ReadKind::Cut),
-        (&[0x01], ReadKind::Magic),
-        (
-            &[0x00, 0x61, 0x73, 0x6D, 0x02, 0x00, 0x00, 0x00],
-            ReadKind::Magic,
-        ),
-    ];
-    for (bytes, kind) in cases {
-        let fault = ReadStop::Fault { at: 0, kind };
-        assert_eq!(rt; read(rt.alloc(), bytes).err(), Some(fault), "at {bytes:?}");
-    }
-}
+/// All of the input, and the kind of its first fault, at the first byte.
+const FAULTS_OF_HEADERS: [(&[u8], ReadKind); 4] = [
+    (&[], ReadKind::Cut),
+    (&[0x00, 0x61, 0x73], ReadKind::Cut),
+    (&[0x01], ReadKind::Magic),
+    (
+        &[0x00, 0x61, 0x73, 0x6D, 0x02, 0x00, 0x00, 0x00],
+        ReadKind::Magic,
+    ),
+];
 
 /// Sections, and the place and kind of their first fault.
 const FAULTS_OF_SECTIONS: &[(&[u8], usize, ReadKind)] = &[
@@ -212,11 +184,6 @@ const FAULTS_OF_SECTIONS: &[(&[u8], usize, ReadKind)] = &[
     ),
     (&[0x03, 0x02, 0x01, 0x00], 12, ReadKind::Count),
 ];
-
-#[test]
-fn faults_of_sections(rt: HostRuntime) -> Result<(), Fail> {
-    assert_faults(&rt, rt.alloc(), FAULTS_OF_SECTIONS)
-}
 
 /// Bodies, and the place and kind of their first fault.
 const FAULTS_OF_BODIES: &[(&[u8], usize, ReadKind)] = &[
@@ -308,6 +275,36 @@ const FAULTS_OF_BODIES: &[(&[u8], usize, ReadKind)] = &[
 ];
 
 #[test]
-fn faults_of_bodies(rt: HostRuntime) -> Result<(), Fail> {
-    assert_faults(&rt, rt.alloc(), FAULTS_OF_BODIES)
+fn faults_stand_at_the_first_part_that_cannot_be_read(rt: HostRuntime) -> Result<(), Fail> {
+    let alloc = rt.alloc();
+    for (bytes, kind) in FAULTS_OF_HEADERS {
+        let fault = ReadStop::Fault { at: 0, kind };
+        assert_eq!(rt; read(alloc, bytes).err(), Some(fault), "at {bytes:?}");
+    }
+    for table in [FAULTS_OF_SECTIONS, FAULTS_OF_BODIES] {
+        for (rest, at, kind) in table {
+            let bytes = behind_header(alloc, rest)?;
+            let fault = ReadStop::Fault {
+                at: *at,
+                kind: *kind,
+            };
+            assert_eq!(rt; read(alloc, &bytes).err(), Some(fault), "at {rest:?}");
+        }
+    }
+    Ok(())
+}
+
+#[test]
+fn what_stopped_reading_is_told_in_plain_words(rt: HostRuntime) -> Result<(), Fail> {
+    let fault = ReadStop::Fault {
+        at: 13,
+        kind: ReadKind::Float,
+    };
+    assert_eq!(rt;
+        format!(in rt.alloc(); "{fault}")?.as_str(),
+        "Float at byte 13"
+    );
+    let stop = ReadStop::NoMemory;
+    assert_eq!(rt; format!(in rt.alloc(); "{stop}")?.as_str(), "out of memory");
+    Ok(())
 }

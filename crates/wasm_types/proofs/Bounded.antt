@@ -1,9 +1,9 @@
 -- A module that bytes spell keeps to its bounds.
-use Rattle.std.proofs.Common.{◌≡◌, ℕ, zero, suc, ◌+◌, ◌-◌, ◌*◌, ◌^◌, ◌<◌, ◌≤◌, Bool, true, false, cond, ltb, leb, List, [], ◌∷◌, ◌++◌, length, replicate, Option, Some, None, Result, Ok, Err, refl, sym, ap, subst, ◌∙◌, arith, inl, inr, add-zero}
+use Rattle.std.proofs.Common.{◌≡◌, ℕ, zero, suc, ◌+◌, ◌-◌, ◌^◌, ◌<◌, ◌≤◌, Bool, true, false, cond, ltb, leb, List, [], ◌∷◌, length, replicate, Option, Some, None, Result, Ok, Err, refl, sym, ap, subst, ◌∙◌, arith, inl, inr}
 use Rattle.std.specs.Prelude.{All, IfSome}
 use Rattle.std.specs.Str.{is_utf8}
 use Rattle.std.proofs.lemmas.Bool.{ltb-true, leb-true}
-use Rattle.std.proofs.lemmas.List.{length-append, length-replicate, append-nil}
+use Rattle.std.proofs.lemmas.List.{length-append, length-replicate}
 use Rattle.std.proofs.lemmas.List.Elements.{All-nil, All-cons, All-head, All-tail, All-append}
 use Rattle.std.proofs.Math.Pow.{pow_pos, pow_mono}
 use Rattle.wasm_types.specs.declared.kind.ReadKind.{ReadKind}
@@ -20,16 +20,16 @@ use Rattle.wasm_types.specs.declared.instr.Instr.{Instr}
 use Rattle.wasm_types.specs.declared.instr.Instr.TheVariants.{Op, Index, CallIndirect, BrTable, Mem, Const, Block, Loop, If, Else, End}
 use Rattle.wasm_types.specs.Plain.{PlainCode}
 use Rattle.wasm_types.specs.Number.{last_of, IsNumber}
-use Rattle.wasm_types.specs.Part.{Part, byte, marker, number, index, exactly, IsRepeated, judged, anything, byte_list}
+use Rattle.wasm_types.specs.Part.{byte, marker, number, exactly, IsRepeated, judged, anything, byte_list}
 use Rattle.wasm_types.specs.Opcodes.{shape, const_op}
 use Rattle.wasm_types.specs.Types.{text, val_type, result_type, func_type, flag, limits_with, limits, table, sort_of, global_desc, desc_of, desc, import_, ext_of, ext, export_, const_operand, const_value, const_end, init, global, elem, seg}
 use Rattle.wasm_types.specs.Body.{max_locals, group, AreGroups, locals, nested, opcode, br_table, memory_access, call_indirect, operands, instr, blocks_after, IsBody, closings, closings_with, else_at, outer, innermost, closed, placed, code}
 use Rattle.wasm_types.specs.ModuleText.{header, customs, input_end, AreBytes, module_part}
 use Rattle.wasm_types.specs.Laws.{AreFew}
-use Rattle.wasm_types.specs.Bounds.{IsIndex, IsByte, AreFewOf, IsText, IsValue, IsFuncType, IsLimits, IsDesc, IsImport, IsExt, IsExport, IsInit, IsGlobal, IsElem, IsSeg, IsOpcode, IsInstr, IsCode, IsBounded, SpelledAreBounded}
+use Rattle.wasm_types.specs.Bounds.{IsIndex, IsByte, AreFewOf, IsText, IsFuncType, IsLimits, IsDesc, IsImport, IsExt, IsExport, IsInit, IsGlobal, IsElem, IsSeg, IsOpcode, IsInstr, IsCode, IsBounded, SpelledAreBounded}
 use Rattle.wasm_types.proofs.Numbers.{more_bits}
 use Rattle.wasm_types.proofs.BodyLaws.{instr_some}
-use Rattle.wasm_types.proofs.Shaped.{Gives, gives_bind, gives_done, Nothing, any, few_number, gives_vector, gives_sized, gives_section, Few, read_shape, front_bytes, back_bytes}
+use Rattle.wasm_types.proofs.Shaped.{Gives, gives_bind, gives_done, any, few_number, gives_vector, gives_sized, gives_section, Few, read_shape, front_bytes, back_bytes}
 
 abbrev IsBelow : ℕ → ℕ → Type 0
 IsBelow bits n = n < 2 ^ bits

@@ -1,15 +1,15 @@
 -- Each part breaks exactly where, and as, its own parts do, and never outside what holds it.
-use Rattle.std.proofs.Common.{◌≡◌, ℕ, zero, suc, ◌+◌, ◌-◌, ◌≤◌, ◌<◌, ◌⊎◌, Bool, true, false, cond, ltb, List, [], ◌∷◌, ◌++◌, length, take, drop, Option, Some, None, Result, Ok, Err, refl, sym, ap, subst, ◌∙◌, arith, inl, inr, append_assoc}
+use Rattle.std.proofs.Common.{◌≡◌, ℕ, zero, suc, ◌+◌, ◌-◌, ◌≤◌, ◌<◌, ◌⊎◌, Bool, true, false, cond, ltb, List, [], ◌∷◌, length, take, drop, Option, Some, None, Result, Ok, Err, refl, sym, ap, subst, ◌∙◌, arith, inl, inr}
 use Rattle.std.specs.Prelude.{nat_eq}
 use Rattle.std.specs.List.{starts_with}
-use Rattle.std.proofs.lemmas.Bool.{lt-ltb, le-ltb, ltb-true, ltb-false}
+use Rattle.std.proofs.lemmas.Bool.{lt-ltb, ltb-true, ltb-false}
 use Rattle.std.proofs.lemmas.Bool.Decides.{Decides-eqb}
 use Rattle.std.proofs.lemmas.List.{length-append, length-take, length-drop}
 use Rattle.std.proofs.lemmas.Slice.Eq.{starts_is}
 use Rattle.wasm_types.specs.declared.kind.ReadKind.{ReadKind}
 use Rattle.wasm_types.specs.declared.kind.ReadKind.TheVariants.{Cut, Leb, Size}
 use Rattle.wasm_types.specs.Place.{Place, Broken, Reading, then_read, breaks}
-use Rattle.wasm_types.specs.Number.{IsNumber, IsCutNumber, is_cut_number, number_at, number_read, number_or, number_kind}
+use Rattle.wasm_types.specs.Number.{IsCutNumber, is_cut_number, number_at, number_read, number_or, number_kind}
 use Rattle.wasm_types.specs.Part.{Part, IsFault, IsCutOr, BreaksBehind, done, ◌>>=◌, judged, passing, next_of, next_read, known, IsNoByte, byte_or, IsNoNumber, number, index, word_read, IsFrontOf, IsNoWord, exactly, anything, times_read, BreaksInList, times, vector, long_enough, length_read, IsNoLength, inside, behind, part_read, used_up, used_up_read, HasMore, BreaksInSized, sized_read, sized}
 use Rattle.wasm_types.proofs.Lawful.{here, ok_is, read_of, bind_ok}
 use Rattle.wasm_types.proofs.NumberLaws.{number_sound, number_again, cut_is}

@@ -1,10 +1,9 @@
 -- The parts of a module break exactly where their own parts do; laws of faults.
-use Rattle.std.proofs.Common.{◌≡◌, ℕ, zero, suc, ◌+◌, ◌≤◌, ◌<◌, ◌⊎◌, Bool, true, false, cond, eqb, List, [], ◌∷◌, ◌++◌, length, Option, Some, None, Result, Ok, Err, refl, sym, ap, subst, ◌∙◌, arith, inl, inr, eq-eqb}
+use Rattle.std.proofs.Common.{◌≡◌, ℕ, zero, suc, ◌+◌, ◌≤◌, ◌<◌, Bool, true, false, cond, eqb, List, [], ◌∷◌, ◌++◌, length, Some, None, Ok, Err, refl, sym, ap, subst, ◌∙◌, arith, inl, inr, eq-eqb}
 use Rattle.std.specs.Prelude.{nat_le, replicate}
 use Rattle.std.specs.Str.{is_utf8}
 use Rattle.std.proofs.lemmas.Bool.{eqb-true, ne_eqb}
 use Rattle.std.proofs.lemmas.List.{length-append}
-use Rattle.wasm_types.specs.declared.kind.ReadKind.{ReadKind}
 use Rattle.wasm_types.specs.declared.kind.ReadKind.TheVariants.{Cut, Magic, Section, Start, Name, Form, ValueType, Results, Nesting, Locals, Reserved, Count}
 use Rattle.wasm_types.specs.declared.value.ValType.{ValType}
 use Rattle.wasm_types.specs.declared.sort.Sort.{Sort}
@@ -17,15 +16,15 @@ use Rattle.wasm_types.specs.declared.instr.Instr.{Instr}
 use Rattle.wasm_types.specs.Plain.{PlainModule}
 use Rattle.wasm_types.specs.Place.{Place, Broken, Reading, then_read, breaks}
 use Rattle.wasm_types.specs.Opcodes.{shape, const_op}
-use Rattle.wasm_types.specs.Part.{Part, IsFault, BreaksBehind, marker, next_read, exactly, vector, sized, sized_read}
+use Rattle.wasm_types.specs.Part.{Part, BreaksBehind, marker, next_read, exactly}
 use Rattle.wasm_types.specs.Types.{text, val_type, val_type_of, so_many_results, result_type, func_type, flag, flag_of, limits_with, limits, table, sort_of, global_desc, desc_of, desc, import_, ext_of, ext, export_, const_operand, const_value, const_end, end_of, init, global, elem, seg}
-use Rattle.wasm_types.specs.Body.{max_locals, group, groups_read, BreaksInGroups, groups_of, locals, nested, opcode, block_type_of, block_type, reserved, br_table, memory_access, call_indirect, operands, instr, blocks_after, with_front, body_read, BreaksAfter, body, code}
-use Rattle.wasm_types.specs.ModuleText.{header, begins, named_bytes, custom, customs_read, BreaksAfterCustoms, customs, numbered, where_present, section_read, section, end_from, end_read, IsNoEnd, input_end, module_part, BreaksThere, broken, broken_in, reading_of}
+use Rattle.wasm_types.specs.Body.{max_locals, group, groups_read, groups_of, locals, nested, opcode, block_type_of, block_type, reserved, br_table, memory_access, call_indirect, operands, instr, blocks_after, with_front, body_read, BreaksAfter, body, code}
+use Rattle.wasm_types.specs.ModuleText.{header, begins, named_bytes, custom, customs_read, BreaksAfterCustoms, customs, numbered, where_present, section_read, section, end_from, end_read, IsNoEnd, input_end, module_part, broken_in, reading_of}
 use Rattle.wasm_types.specs.Faults.{BreakAtFirstPart, BreakWithin}
 use Rattle.wasm_types.proofs.Lawful.{here, ok_is, read_of, bind_ok}
 use Rattle.wasm_types.proofs.BodyLaws.{lawful_instr, instr_some}
 use Rattle.wasm_types.proofs.ModuleLaws.{lawful_custom, custom_begins, custom_some}
-use Rattle.wasm_types.proofs.Breaking.{failed, err_is, err_as, bind_err, then_err, IsNear, Moves, Exact, exact_done, near_behind, exact_bind, exact_judged, exact_byte_or, exact_number, exact_word, exact_anything, exact_times, exact_vector, exact_sized}
+use Rattle.wasm_types.proofs.Breaking.{failed, err_is, err_as, bind_err, then_err, IsNear, Moves, Exact, exact_done, near_behind, exact_bind, exact_judged, exact_byte_or, exact_number, exact_word, exact_anything, exact_vector, exact_sized}
 
 -- ---- types, imports, exports, globals and segments
 

@@ -1,6 +1,6 @@
 -- An example of what the bounds are for: the fields of an instruction in some file, an opcode byte and numbers of 32 or 64 bits. They
 -- fit, and the instruction is found again from them. Nothing else is known of it but its bounds.
-use Rattle.std.proofs.Common.{◌≡◌, ℕ, zero, suc, ◌+◌, ◌^◌, ◌<◌, ◌≤◌, List, [], ◌∷◌, length, Option, Some, None, Result, Ok, Err, refl, arith, inl, inr, map}
+use Rattle.std.proofs.Common.{◌≡◌, ℕ, zero, suc, ◌^◌, ◌<◌, List, [], ◌∷◌, length, Option, Some, None, Result, Ok, refl, arith, inl, inr, map}
 use Rattle.std.specs.List.{All, AllByRecursion}
 use Rattle.std.proofs.lemmas.List.Elements.{All-from_recursion}
 use Rattle.wasm_types.specs.declared.kind.ReadKind.{ReadKind}

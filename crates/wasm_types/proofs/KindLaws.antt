@@ -1,19 +1,16 @@
 -- What each part breaks with, at other bytes than its own.
-use Rattle.std.proofs.Common.{◌≡◌, ℕ, ◌+◌, ◌≤◌, ◌<◌, Bool, true, false, cond, eqb, List, [], ◌∷◌, ◌++◌, length, take, Result, Ok, Err, refl, sym, ap, ◌∙◌, arith, inl, inr}
-use Rattle.std.specs.Str.{is_utf8}
+use Rattle.std.proofs.Common.{◌≡◌, ℕ, ◌+◌, ◌<◌, Bool, true, false, cond, eqb, List, ◌++◌, length, Result, Ok, Err, refl, sym, ap, ◌∙◌, arith, inl, inr}
 use Rattle.std.proofs.lemmas.Bool.{eqb-true, ne_eqb, le-ltb, lt-leb}
-use Rattle.std.proofs.lemmas.List.{append-nil, length-append}
+use Rattle.std.proofs.lemmas.List.{length-append}
 use Rattle.wasm_types.specs.declared.kind.ReadKind.{ReadKind}
 use Rattle.wasm_types.specs.declared.kind.ReadKind.TheVariants.{Cut, Magic, Float, Opcode, ValueType}
-use Rattle.wasm_types.specs.declared.value.ValType.{ValType}
 use Rattle.wasm_types.specs.declared.opcode.Shape.{Shape}
 use Rattle.wasm_types.specs.declared.opcode.Shape.TheVariants as shapes
-use Rattle.wasm_types.specs.Place.{Place, Broken}
 use Rattle.wasm_types.specs.Opcodes.{shape, is_within, is_plain, has_index, is_memory, is_float}
-use Rattle.wasm_types.specs.Part.{IsFrontOf, next_read, number, index, length_read, part_read, sized_read}
+use Rattle.wasm_types.specs.Part.{IsFrontOf, next_read, length_read, part_read, sized_read}
 use Rattle.wasm_types.specs.Types.{text, val_type, val_type_of, result_type, func_type, flag, table, sort_of, desc, ext, const_value, const_end, end_by}
 use Rattle.wasm_types.specs.Body.{max_locals, group, nested, opcode, block_type, reserved}
-use Rattle.wasm_types.specs.ModuleText.{header, end_read, broken, module_part, BreaksThere}
+use Rattle.wasm_types.specs.ModuleText.{header, end_read, module_part, BreaksThere}
 use Rattle.wasm_types.specs.Faults.{IsFloatType, IsNoType, HeaderFaults, TypeFaults, CodeFaults, ConstantFaults, SectionFaults}
 use Rattle.wasm_types.proofs.FaultLaws.{break_at_first_part}
 

@@ -1,5 +1,5 @@
 -- The code of a function (core 1.0, sections 5.4 and 5.5.13): its locals, and instructions up to the `end` that closes it.
-use Rattle.std.specs.Prelude.{◌≡◌, ℕ, zero, suc, ◌+◌, ◌<◌, ◌⊎◌, ◌==◌, nat_le, if◌then◌else◌, Bool, true, false, List, [], ◌∷◌, ◌++◌, length, replicate, Option, Some, None, Result, Ok, Err}
+use Rattle.std.specs.Prelude.{◌≡◌, ℕ, zero, suc, ◌+◌, ◌<◌, ◌==◌, nat_le, if◌then◌else◌, Bool, true, false, List, [], ◌∷◌, ◌++◌, length, replicate, Option, Some, None, Result, Ok, Err}
 use Rattle.wasm_types.specs.declared.kind.ReadKind.{ReadKind}
 use Rattle.wasm_types.specs.declared.kind.ReadKind.TheVariants.{Reserved, Nesting, Locals}
 use Rattle.wasm_types.specs.declared.value.ValType.{ValType}

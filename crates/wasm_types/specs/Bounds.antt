@@ -1,7 +1,7 @@
 -- What a module that bytes spell keeps to: each list and each text has fewer than 2^32 items, a text is UTF-8, each number fits
 -- its bits, each instruction has an opcode of its own form, and its labels and places are there. A writer of another format
 -- can give each count and index 32 bits, and read all of them back.
-use Rattle.std.specs.Prelude.{◌≡◌, ℕ, ◌+◌, ◌^◌, ◌<◌, ◌≤◌, ◌⊎◌, true, List, length, All, Option, Ok, IfSome}
+use Rattle.std.specs.Prelude.{◌≡◌, ℕ, ◌+◌, ◌^◌, ◌<◌, ◌≤◌, ◌⊎◌, true, List, length, All, Ok, IfSome}
 use Rattle.std.specs.Str.{is_utf8}
 use Rattle.wasm_types.specs.declared.value.Value.{Value}
 use Rattle.wasm_types.specs.declared.value.Value.TheVariants as values

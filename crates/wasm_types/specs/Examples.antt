@@ -1,10 +1,9 @@
 -- What the definitions say of small inputs: numbers, and where bytes behind the header break first, for each of the 18 kinds.
 use lib.Utf8.{encode}
 use Rattle.std.specs.Str.{is_utf8, chars}
-use Rattle.std.specs.Prelude.{◌≡◌, ℕ, true, false, List, [], ◌∷◌, ◌++◌, Option, Some, None, refl}
+use Rattle.std.specs.Prelude.{◌≡◌, ℕ, true, false, List, [], ◌∷◌, ◌++◌, Some, None, refl}
 use Rattle.wasm_types.specs.declared.kind.ReadKind.{ReadKind}
 use Rattle.wasm_types.specs.declared.kind.ReadKind.TheVariants.{Cut, Magic, Leb, Section, Start, Size, Name, Form, ValueType, Float, Results, Kind, Flag, Reserved, Opcode, Nesting, Locals, Count}
-use Rattle.wasm_types.specs.Place.{Broken}
 use Rattle.wasm_types.specs.Opcodes.{shape}
 use Rattle.wasm_types.specs.Number.{number_at, is_cut_number, number_read}
 use Rattle.wasm_types.specs.ModuleText.{header, broken, module_of, module_part}

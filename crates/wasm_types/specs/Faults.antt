@@ -1,6 +1,6 @@
 -- Laws of faults. A fault is that of the first part that can't be read, from the front of the bytes, and stands at that part's first byte;
 -- what each part breaks with, at other bytes than its own.
-use Rattle.std.specs.Prelude.{◌≡◌, ◌≢◌, ℕ, ◌+◌, ◌<◌, ◌≤◌, ◌↔◌, ◌⊎◌, Bool, true, false, List, ◌∷◌, ◌++◌, length, take, Some, Ok, Err}
+use Rattle.std.specs.Prelude.{◌≡◌, ◌≢◌, ℕ, ◌+◌, ◌<◌, ◌≤◌, ◌↔◌, ◌⊎◌, Bool, false, List, ◌∷◌, ◌++◌, length, take, Some, Ok, Err}
 use Rattle.std.specs.Str.{is_utf8}
 use Rattle.wasm_types.specs.declared.kind.ReadKind.{ReadKind}
 use Rattle.wasm_types.specs.declared.kind.ReadKind.TheVariants.{Cut, Magic, Section, Start, Name, Form, ValueType, Float, Results, Kind, Flag, Reserved, Opcode, Nesting, Locals}

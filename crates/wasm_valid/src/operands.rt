@@ -1,6 +1,3 @@
-ghost use Rattle.std.specs.Prelude.{◌≡◌, Bool};
-ghost use Rattle.wasm_types.specs.Typing.{same_type};
-
 use std::alloc::{AllocError, Global};
 use wasm_types::{ValType, ValidKind};
 
@@ -13,7 +10,7 @@ pub struct Operands {
 }
 
 impl Operands {
-    ghost use Rattle.std.specs.Prelude.{◌≡◌, [], ◌++◌, reverse, IfOk, OnErr, Ok, option_to_list};
+    ghost use Rattle.std.specs.Prelude.{◌≡◌, reverse, Ok, option_to_list};
     ghost use Rattle.wasm_types.specs.Typing.{no_operands, any_operands, pop, taken, all_taken, pushed, given, nothing_left};
     ghost use Rattle.wasm_valid.specs.Stacks.{stack, Pops, Leaves, Ends, Gave};
 

@@ -1,6 +1,5 @@
 use Rattle.std.proofs.Common.{◌∙◌, ap, ◌∷◌}
 use Rattle.wasm_machine.specs.Acts as host
-use Rattle.wasm_machine.specs.Acts.{Act, Stands, Standing, idle}
 use Rattle.wasm_machine.specs.Exec.{at_last, exec}
 use Rattle.wasm_machine.specs.Rests.{hosts}
 use Rattle.wasm_machine.specs.Machine.{HasUnbegunCall, StandsFor, plain_of}

@@ -1,7 +1,7 @@
 use Rattle.std.proofs.Common.{refl, sym, ◌∙◌, ap, [], ◌∷◌}
 use Rattle.std.proofs.lemmas.List.{append-nil}
 use Rattle.wasm_machine.specs.Acts as host
-use Rattle.wasm_machine.specs.Acts.{Act, Stands, Standing, idle}
+use Rattle.wasm_machine.specs.Acts.{Stands}
 use Rattle.wasm_machine.specs.Exec.{at_last, exec}
 use Rattle.wasm_machine.specs.Machine.{HasUnbegunCall, with_memory, StandsFor, plain_of}
 use Rattle.wasm_machine.proofs.Standing.{one_more_act, rests_memory, memory_rests}
