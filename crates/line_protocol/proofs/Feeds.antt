@@ -1,5 +1,5 @@
 -- The first line feed among gathered bytes, and the lines of bytes whose first line feed is known.
-use Rattle.std.proofs.Common.{Option, inl, inr, append_assoc, ◌≡◌, ◌≢◌, ℕ, zero, suc, ◌+◌, ◌-◌, ◌<◌, ◌≤◌, true, List, [], ◌∷◌, ◌++◌, length, get_or, take, drop, eqb, refl, sym, ap, ◌∙◌, arith, get_or-drop, length-drop, add-one}
+use Rattle.std.proofs.Common.{Option, inl, inr, append_assoc, ◌≡◌, ◌≢◌, ℕ, zero, suc, ◌+◌, ◌-◌, ◌<◌, ◌≤◌, true, List, [], ◌∷◌, ◌++◌, length, get_or, take, drop, eqb, refl, sym, ap, ◌∙◌, arith, get_or-drop, length-drop, length-append, add-one}
 use Rattle.std.proofs.lemmas.Bool.Decides.{nat_tests, Decides-eqb}
 use Rattle.memchr.specs.Find.{Passes, is_byte, Nowhere}
 use Rattle.std.proofs.KnownBytes.{Consumes-trans}
@@ -71,6 +71,12 @@ unfed_front front more unfed k low high fed = unfed k low high (sym (get_or_appe
 -- what has no line feed has none once bytes stand behind it
 pub unfed_drawn : (a b : Option (List ℕ)) (x y : List ℕ) → Draws a b x y → IsUnfed x 0 (length x) → IsUnfed y 0 (length x)
 unfed_drawn a b x y drawn unfed = rw drawn.onto (unfed_front x drawn.taken unfed)
+
+-- where no line feed was found, the bytes before had none
+pub never_fed : (a b : Option (List ℕ)) (x y : List ℕ) (k : ℕ) → Draws a b x y → IsUnfed y 0 (length y) → k < length x → get_or x k 0 ≡ 10 → ⊥
+never_fed a b x y k drawn unfed within fed =
+    let long : length y ≡ length x + length drawn.taken = ap length drawn.onto ∙ length-append x drawn.taken in
+    unfed k (omega arith) (omega (arith, long)) (ap (λ l. get_or l k 0) drawn.onto ∙ get_or_append_left x drawn.taken 0 k within ∙ fed)
 
 pub unfed_join : (bytes : List ℕ) (i j : ℕ) → IsUnfed bytes 0 i → IsUnfed bytes i j → IsUnfed bytes 0 j
 unfed_join bytes i j front back k low high fed = elim (cases_lt k i) [ inl h ↦ front k low h fed | inr h ↦ back k h high fed ]

@@ -132,8 +132,10 @@ impl Lines {
             → TakesUnfed (S.left source.old) (S.left source.new) (kept self.old) }
         ensures counted { S.faults source.old ≤ S.faults source.new }
 
-        // Once the end was read, the source is not asked again.
+        // Once the end was read, or where a line feed is kept, the source is not asked again.
         ensures unasked { is_ended self.old ≡ true → source.new ≡ source.old }
+        ensures spared { OnOk result ((k : ℕ) → k < length (kept self.old)
+            → slice_index (kept self.old) k ≡ line_feed → source.new ≡ source.old) }
     {
         match self.gather(source)? {
             Gathered::Fed(at) => Ok(Some(self.settle(alloc, at, 1)?)),
@@ -216,6 +218,8 @@ impl Lines {
             → Rose (S.faults source.old) (S.faults source.new) }
         ensures counted { S.faults source.old ≤ S.faults source.new }
         ensures unasked { is_ended self.old ≡ true → source.new ≡ source.old }
+        ensures spared { OnOk result ((k : ℕ) → k < length (kept self.old)
+            → slice_index (kept self.old) k ≡ line_feed → source.new ≡ source.old) }
         ensures err { IfErr result IsReadStop }
     {
         let mut seen = 0;

@@ -1,6 +1,6 @@
 use Rattle.std.proofs.Common.{length, ◌∙◌, rules, arith}
 use Rattle.line_protocol.specs.Progress.{kept}
-use Rattle.line_protocol.proofs.Feeds.{Draws-trans, unfed_drawn, unfed_join, unfed_len}
+use Rattle.line_protocol.proofs.Feeds.{Draws-trans, never_fed, unfed_drawn, unfed_join, unfed_len}
 use Rattle.line_protocol.proofs.lines.Lines.gather.Goals as goal
 
 pub loop-at-preserved : goal.loop-at-preserved
@@ -16,5 +16,6 @@ loop-at-preserved g c =
       end = λ h. search rules;
       stays = λ h. filled.ended ∙ before.stays h;
       unasked = λ h. search rules;
+      spared = λ k within fed. absurd (never_fed _ _ _ _ k before.draws all within fed);
       counted = omega (arith, filled.counted, before.counted);
     }

@@ -1,7 +1,7 @@
 -- The bytes taken so far stand behind those that were kept at first, and those that were seen have no line feed.
-use Rattle.std.proofs.Common.{◌≡◌, ◌+◌, ◌-◌, ◌≤◌, cond, length, true}
+use Rattle.std.proofs.Common.{◌≡◌, ℕ, ◌<◌, slice_index, ◌+◌, ◌-◌, ◌≤◌, cond, length, true}
 use Rattle.line_protocol.specs.Gathering.{IsUnfed, Draws}
-use Rattle.line_protocol.specs.Lines.{max_line}
+use Rattle.line_protocol.specs.Lines.{max_line, line_feed}
 use Rattle.line_protocol.specs.Progress.{kept, KnowsEnd, IsBehind}
 use Rattle.line_protocol.proofs.lines.Lines.gather.Given as goal
 
@@ -14,6 +14,7 @@ invariant-loop-at g l = record {
   end : KnowsEnd l.self (g.S.Source.left l.source);
   stays : l.fn.self.ended ≡ true → l.self.ended ≡ true;
   unasked : l.fn.self.ended ≡ true → l.source ≡ l.fn.source;
+  spared : (k : ℕ) → k < length (kept l.fn.self) → slice_index (kept l.fn.self) k ≡ line_feed → l.source ≡ l.fn.source;
   counted : g.S.Source.faults l.fn.source ≤ g.S.Source.faults l.source;
 }
 
