@@ -1,6 +1,6 @@
 -- An accepted code taken apart, rule by rule.
-use Rattle.std.proofs.Common.{◌≡◌, ℕ, ◌+◌, ◌<◌, ◌≤◌, Bool, true, false, not, ◌&&◌, ◌||◌, List, [], ◌∷◌, ◌++◌, length, Option, Some, None, Result, Ok, Err, refl, sym, ap, subst, ◌∙◌, arith}
-use Rattle.std.specs.Prelude.{All, Any, IsSome, is_some, is_none, nat_lt, nat_le, ◌==◌, option_map, slice_get, ◌*◌}
+use Rattle.std.proofs.Common.{◌≡◌, ℕ, ◌+◌, ◌<◌, ◌≤◌, Bool, true, false, not, ◌&&◌, ◌||◌, List, [], ◌∷◌, ◌++◌, length, Option, Some, None, Result, Ok, Err, refl, sym, ap, ◌∙◌, arith}
+use Rattle.std.specs.Prelude.{All, Any, IsSome, is_some, is_none, ◌==◌, option_map, slice_get, ◌*◌}
 use Rattle.std.specs.List.{list_any}
 use Rattle.std.specs.Str.{bytes_eq}
 use Rattle.std.specs.Cmp.Lexicographic.{pointwise}
@@ -16,16 +16,16 @@ use Rattle.wasm_types.specs.declared.kind.ValidKind.TheVariants as kinds
 use Rattle.wasm_types.specs.declared.limits.Limits.{Limits}
 use Rattle.wasm_types.specs.declared.import.Desc.{Desc}
 use Rattle.wasm_types.specs.declared.import.Desc.TheVariants as descs
-use Rattle.wasm_types.specs.Plain.{PlainFuncType, PlainImport, PlainExport, PlainElem, PlainSeg, PlainModule, PlainRefusal, invalid, import_kind, import_unknown, import_type, element_range, data_range, table_no_max}
+use Rattle.wasm_types.specs.Plain.{PlainFuncType, PlainImport, PlainExport, PlainModule, PlainRefusal, invalid, table_no_max}
 use Rattle.wasm_types.specs.Place.{Reading}
-use Rattle.wasm_types.specs.ModuleText.{AreBytes, IsModule, HasSpelling, module_in, module_of, broken, broken_in, reading_of}
+use Rattle.wasm_types.specs.ModuleText.{module_in, module_of, broken, broken_in, reading_of}
 use Rattle.wasm_types.specs.Typing.{◌>>=◌, or_else, needs, same_type, same_result}
 use Rattle.wasm_valid.specs.Sections.{imports_fault, funcs_fault, tables_fault, memories_fault, contents_fault}
 use Rattle.wasm_types.specs.Validity.{Fault, most_elements, most_pages, fault_at, first_fault, first_in, only_one, limits_kept, valid_fault, imported, table_in, memory_in}
 use Rattle.wasm_types.specs.Laws.{IsTheSpelled}
 use Rattle.wasm_types.specs.Interface.{entry_points, wanted_exports, type_named}
 use Rattle.wasm_types.specs.Gate.{unless, first_some, first_refused, of_first, gzip_rule, size_rule, is_func, are_same, same_func_type, max_refused, wanted_type, desc_type, offset_of, least_size, page, most_imports, most_initial_pages, most_bytes, most_table_elements, module_rules, reading_rules, required, capability_refused, entry_refused, is_other_interface, ext_type, is_exported, gate}
-use Rattle.gatekeeper.specs.Accepted.{IsAccepted, required_in}
+use Rattle.gatekeeper.specs.Accepted.{required_in}
 use Rattle.gatekeeper.specs.Contract.{IsFunction, IsExported, IsEntry, IsCapable, HasMax, IsHostFunction, ElementsFit, DataFits, IsContract, TakenIsContract, AcceptedIsContract, DecodedIsSpelled}
 
 abbrev Refusal : Type 0

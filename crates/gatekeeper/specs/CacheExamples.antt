@@ -1,5 +1,5 @@
 -- Small caches at which the definitions compute to what is said of them. The codes are of one byte, and two recent ones are kept.
-use Rattle.std.specs.Prelude.{◌≡◌, ℕ, ◌+◌, ◌-◌, ◌^◌, List, [], ◌∷◌, Some, None, refl}
+use Rattle.std.specs.Prelude.{◌≡◌, ℕ, ◌-◌, ◌^◌, List, [], ◌∷◌, Some, None, refl}
 use Rattle.gatekeeper.specs.declared.served.Served.TheVariants.{Pinned, Recent}
 use Rattle.gatekeeper.specs.Cache.{Cache, Tally, looked, stowed, tallied, all_tallied, each_once, warmed}
 

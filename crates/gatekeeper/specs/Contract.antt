@@ -1,5 +1,5 @@
 -- What an accepted code is, rule by rule. These facts follow from the gate's definition.
-use Rattle.std.specs.Prelude.{◌≡◌, ℕ, ◌+◌, ◌*◌, ◌≤◌, nat_eq, Bool, true, false, List, [], ◌∷◌, length, slice_get, codes, All, Any, IsSome, Option, Some, None}
+use Rattle.std.specs.Prelude.{◌≡◌, ℕ, ◌+◌, ◌*◌, ◌≤◌, nat_eq, false, List, [], ◌∷◌, length, slice_get, All, Any, IsSome, Some, None}
 use Rattle.std.specs.List.{starts_with}
 use Rattle.wasm_types.specs.declared.limits.Limits.{Limits}
 use Rattle.wasm_types.specs.declared.import.Desc.TheVariants as descs

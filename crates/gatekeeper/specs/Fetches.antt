@@ -1,5 +1,5 @@
 -- What a fetch says of the tally that a place where modules come from may tell. Where it tells none, nothing is claimed.
-use Rattle.std.specs.Prelude.{◌≡◌, ℕ, List, [], ◌∷◌, ◌++◌, Option, Some, None, ⊤}
+use Rattle.std.specs.Prelude.{◌≡◌, ℕ, List, ◌++◌, Option, Some, None, ⊤}
 use Rattle.gatekeeper.specs.declared.served.Served.{Served}
 use Rattle.gatekeeper.specs.declared.served.Served.TheVariants.{Pinned, Recent, File, Decoded}
 use Rattle.gatekeeper.specs.Cache.{Tally, looked, all_tallied}

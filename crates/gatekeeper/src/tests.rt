@@ -2,6 +2,7 @@ mod bodies;
 mod contracts;
 mod faults;
 mod rules;
+mod uses;
 
 use crate::{Decoding, GateStop, Modules, Served, check};
 use bodies::{BODIES, FRAME, UNREACHED};
@@ -11,12 +12,11 @@ use rules::{EXPORTS, IMPORTS, SIZES};
 use std::alloc::{AllocError, Global};
 use std::process::Abort;
 use std::test::Fail;
+use uses::{contract_of, fetch_both};
 use wasm_reader::read;
-use wasm_types::ValidKind;
+use wasm_types::{HEADER, ValidKind};
 use wasm_valid::{ValidStop, valid};
 use wasm_writer::{common, echo, sign, write};
-
-const HEADER: [u8; 8] = [0x00, 0x61, 0x73, 0x6D, 0x01, 0x00, 0x00, 0x00];
 
 fn words_of(alloc: Global, texts: &[&str]) -> Result<Vec<String>, AllocError> {
     let mut words = Vec::new(alloc);
@@ -340,11 +340,13 @@ const DIGEST: [u8; 32] = [
 fn a_code_that_is_taken_is_decoded(rt: HostRuntime) -> Result<(), Fail> {
     let alloc = rt.alloc();
     let bytes = write(alloc, &echo(alloc)?)?;
-    let code = check(alloc, bytes.clone()?, &[])?;
+    let code = contract_of(alloc, bytes.clone()?, &[])?;
     assert_eq!(rt; code.bytes(), bytes.as_slice());
     assert_eq!(rt; code.checksum(), DIGEST);
     let (module, served) = Decoding::new().fetch(alloc, &code)?;
     assert!(rt; *module == echo(alloc)?);
     assert_eq!(rt; served, Served::Decoded);
+    let module = fetch_both(alloc, &mut Decoding::new(), &code, &code)?;
+    assert!(rt; *module == echo(alloc)?);
     Ok(())
 }
