@@ -7,11 +7,13 @@ use Rattle.kv_layers.specs.declared.layers.Layers.{Layers}
 use Rattle.kv_layers.specs.Bytes.{Bytes}
 use Rattle.kv_layers.specs.Layers.{Turns, HasCurrent}
 use Rattle.kv_layers.specs.Maps.{changed}
+use Rattle.kv_layers.specs.Spelling.{Becomes}
 use Rattle.chain_records.specs.State.{Spells}
+use Rattle.chain_records.specs.Spelled.{OfEach, HasTyped}
 use Rattle.bank_ledger.specs.Accounts.{balance}
 use Rattle.bank_ledger.specs.Balances.{Balances, moved, Shortfall, shortfall}
-use Rattle.bank_ledger.specs.Effects.{Becomes, IsSent}
-use Rattle.bank_ledger.specs.Spelled.{OfEach, HasLawful, HasTyped}
+use Rattle.bank_ledger.specs.Effects.{IsSent}
+use Rattle.bank_ledger.specs.Lawful.{HasLawfulAmounts, HasLawful}
 use Rattle.wasmnode.specs.Chain.{Outcome, send_cost, sent, failed, out_of_gas_failure, delivered, results_of, balances_after}
 use Rattle.wasmnode.specs.Holding.{Holds, is_base}
 use Rattle.wasmnode.specs.Sends.{Send}
@@ -41,7 +43,7 @@ pub runs_out : (b : Balances) (tx : Send) → tx.gas < send_cost tx → delivere
 runs_out b tx few = ap (λ (out : Bool). cond out (record { balances = b; result = failed out_of_gas_failure tx.gas }) (sent b tx (shortfall b tx.sender.bytes tx.payment.coins))) (lt-ltb _ _ few)
 
 abbrev pub Sends : Layers Bytes → Layers Bytes → Send → Type 0
-Sends old new tx = Becomes is_base old new (λ s t. IsSent s tx.sender.bytes tx.payment.to.bytes tx.payment.coins t)
+Sends old new tx = Becomes Spells HasLawfulAmounts is_base old new (λ s t. IsSent s tx.sender.bytes tx.payment.to.bytes tx.payment.coins t)
 
 -- what was sent is held afterwards
 pub sent_is : (old new : Layers Bytes) (tx : Send) (b : Balances) → send_cost tx ≤ tx.gas → Sends old new tx → Holds old b → (delivered b tx ≡ sent b tx None) × Holds new (delivered b tx).balances

@@ -1,16 +1,16 @@
 -- Addresses of a chain: as texts are read, and as they are written and kept.
 use Rattle.std.specs.Prelude.{ℕ, List, Option, None, Some, option_map}
-use Rattle.std.specs.Str.{str_to_ascii_lowercase}
 use Rattle.chain_addr.specs.Address as texts
+use Rattle.chain_addr.specs.Text.{text_of}
 
--- an address: its text in lower case, and the bytes that it stands for
+-- an address: the bytes, and the text in which it is written
 pub record Address : Type 0 where
   pub text : List ℕ
   pub bytes : List ℕ
 
 -- the address that a text is, on a chain whose addresses have this prefix
 abbrev pub address_of : List ℕ → List ℕ → Option Address
-address_of prefix text = option_map (λ bytes. record { text = str_to_ascii_lowercase text; bytes = bytes }) (texts.address_of prefix text)
+address_of prefix text = option_map (λ bytes. record { text = text_of prefix bytes; bytes = bytes }) (texts.address_of prefix text)
 
 -- an address that may be left out, and can be read where it is there
 abbrev pub optional_address : List ℕ → Option (List ℕ) → Option (Option Address)

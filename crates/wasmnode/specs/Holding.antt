@@ -1,3 +1,4 @@
+-- Not for readers of contracts: it serves the proofs of this crate alone.
 -- The balances that the chain's records and layers over them hold.
 use Rattle.std.specs.Prelude.{ℕ, ◌≡◌, List}
 use Rattle.chain_records.specs.Records.{PlainFacts}

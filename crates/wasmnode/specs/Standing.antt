@@ -1,3 +1,4 @@
+-- Not for readers of contracts: it serves the proofs of this crate alone.
 -- Which chain a chain in the node stands for.
 use Rattle.std.specs.Prelude.{◌≡◌, Option, None, Some, Result, Ok, Err, string_bytes}
 use Rattle.gas_meter.specs.Costs.{standard_schedule}

@@ -1,3 +1,4 @@
+-- Not for readers of contracts: it serves the proofs of this crate alone.
 -- Why no records are made of accounts: a supply doesn't fit 128 bits, or there is no memory.
 use Rattle.std.specs.Prelude.{◌≡◌, ℕ, ◌^◌, ◌<◌, ◌≤◌, Bool, false, Option, None, Some, Result, Ok, Err, string_bytes, ⊤}
 use Rattle.line_protocol.specs.declared.kind.BadKind.TheVariants.{Form}

@@ -1,3 +1,4 @@
+-- Not for readers of contracts: it serves the proofs of this crate alone.
 -- The plain forms of what the node reads.
 use Rattle.std.specs.Prelude.{ℕ, List, string_bytes, map}
 use Rattle.coin_amounts.specs.Coins.{coins_view}

@@ -1,9 +1,8 @@
 ghost use Rattle.std.specs.Prelude.{◌≡◌, ◌≤◌, length, string_bytes, true};
 ghost use Rattle.line_protocol.specs.Forms.{is_prefix};
 
-use crate::letters::is_prefix;
-use chain_addr::{AddrFault, decode};
-use line_protocol::{BadKind, ParseStop};
+use chain_addr::{AddrFault, decode, texts_have_one_form};
+use line_protocol::{BadKind, ParseStop, is_prefix};
 use std::alloc::Global;
 
 /// An address: its text in lower case, and the 1 to 64 bytes that it stands for.
@@ -45,6 +44,7 @@ impl Prefix {
     pub fn read(&self, alloc: Global, text: &str) -> Result<Address, ParseStop>
         ensures { Reads address_view result (address_of (prefix_view self.now) text.now) }
     {
+        texts_have_one_form();
         match decode(alloc, self.text.as_str(), text) {
             Ok(bytes) => {
                 let text = text.to_ascii_lowercase(alloc)?;

@@ -27,14 +27,7 @@ fn charge_coins(meter: &mut Meter, costs: &Schedule, coins: &Coins) -> Result<()
     ensures err { OnErr result ((meter.old.left < coins_cost costs.now (length (coins_view coins.now)))
         × (meter.new ≡ exhausted meter.old)) }
 {
-    let cost = u128::from(costs.coin) * coins.len() as u128;
-    let left = meter.left();
-    if u128::from(left) < cost {
-        meter.spend(left);
-        return Err(OutOfGas);
-    }
-    meter.spend(cost as u64);
-    Ok(())
+    meter.charge_wide(u128::from(costs.coin) * coins.len() as u128)
 }
 
 /// Charges a message and its coins. Where too little gas is left, all of that is used.
@@ -45,10 +38,8 @@ fn charge_send(meter: &mut Meter, costs: &Schedule, send: &Send) -> Result<(), O
     ensures err { OnErr result ((meter.old.left < send_cost (send_view send.now))
         × (meter.new ≡ exhausted meter.old)) }
 {
-    match meter.charge(costs.message) {
-        Ok(()) => charge_coins(meter, costs, &send.payment.coins),
-        Err(stop) => Err(stop),
-    }
+    meter.charge(costs.message)?;
+    charge_coins(meter, costs, &send.payment.coins)
 }
 
 fn attribute(alloc: Global, key: &str, value: String) -> Result<Attribute, AllocError>

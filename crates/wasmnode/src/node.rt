@@ -1,6 +1,7 @@
 ghost use Rattle.std.specs.Prelude.{◌≡◌, ◌≢◌, ◌≤◌, ℕ, List, None, Some, string_bytes, map};
 ghost use Rattle.std.specs.Io.KnownBytes.{Appends, IsAtEnd};
 ghost use Rattle.outside_io.specs.Cause.{Rose};
+ghost use Rattle.outside_io.specs.Pieces.{AppendsFront};
 ghost use Rattle.wasmnode.specs.Halts.{Ends};
 ghost use Rattle.wasmnode.specs.Run.{Writes};
 ghost use Rattle.wasmnode.specs.Words.{run_serial, check_code, command_of, usage_line, Explains};
@@ -23,6 +24,7 @@ fn explain<K: Sink>(sink: &mut K) -> Status
     ensures explains { Explains result
         (Appends (K.written sink.old) (K.written sink.new) usage_line)
         (Rose (K.faults sink.old) (K.faults sink.new)) }
+    ensures front { AppendsFront (K.written sink.old) (K.written sink.new) usage_line }
     ensures writes { K.faults sink.old ≤ K.faults sink.new }
 {
     match write_all(sink, USAGE.as_bytes()) {
@@ -58,6 +60,8 @@ pub fn node<R: Threads + Wait + Sync, S: Source, K: Sink, F: Shelf + Send + Drop
     ensures usage { command_of (map string_bytes words.now) ≡ None → Explains result
         (Appends (K.written sink.old) (K.written sink.new) usage_line)
         (Rose (K.faults sink.old) (K.faults sink.new)) }
+    ensures usage_front { command_of (map string_bytes words.now) ≡ None
+        → AppendsFront (K.written sink.old) (K.written sink.new) usage_line }
     ensures unread { command_of (map string_bytes words.now) ≡ None → source.new ≡ source.old }
     ensures reads { S.faults source.old ≤ S.faults source.new }
     ensures writes { K.faults sink.old ≤ K.faults sink.new }

@@ -153,10 +153,7 @@ fn bytes_of(address: Option<Address>) -> Option<Vec<u8>>
     ensures { option_map (λ bytes. bytes.items) result
         ≡ option_map (λ a. a.bytes) (option_map address_view address) }
 {
-    match address {
-        Some(Address { bytes, .. }) => Some(bytes),
-        None => None,
-    }
+    address.map(|Address { bytes, .. }| bytes)
 }
 
 fn copied_texts(alloc: Global, texts: &[String]) -> Result<Vec<String>, AllocError>

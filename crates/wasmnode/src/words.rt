@@ -4,6 +4,7 @@ ghost use Rattle.wasmnode.specs.Commands.{Reads, IsChecking};
 
 use crate::options::Options;
 use std::alloc::{AllocError, Global};
+use thiserror::Error;
 
 /// What the program is told to do.
 #[derive(Clone, Copy, Debug, PartialEq, Eq)]
@@ -13,9 +14,11 @@ pub enum Command {
 }
 
 /// Why words give no command.
-#[derive(Clone, Copy, Debug, PartialEq, Eq)]
+#[derive(Clone, Copy, Debug, PartialEq, Eq, Error)]
 pub enum WordsFault {
+    #[error("the words are none that the program takes")]
     Usage,
+    #[error("out of memory")]
     NoMemory,
 }
 
