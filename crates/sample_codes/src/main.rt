@@ -7,28 +7,15 @@ mod status;
 #[cfg(test)]
 mod tests;
 
-use outside_io::StdSink;
+use outside_io::{StdSink, words_of};
 use status::Status;
-use std::alloc::AllocError;
-use std::env::{self, Env};
-use std::io::ErrorKind;
 use std::process::ExitCode;
-
-/// The words after the program's name. Where one is no UTF-8, there is none that the program takes.
-fn words_of<R: Env + AllocGlobal>(rt: &R) -> Result<Vec<String>, AllocError> {
-    let alloc = rt.alloc();
-    match env::args(rt) {
-        Ok(words) => words.skip(1).collect(alloc),
-        Err(error) if error.kind() == ErrorKind::OutOfMemory => Err(AllocError),
-        Err(_) => Ok(Vec::new(alloc)),
-    }
-}
 
 fn main(rt: HostRuntime) -> ExitCode {
     let Ok(words) = words_of(&rt) else {
-        return ExitCode::from(Status::NoMemory.number());
+        return Status::NoMemory.code();
     };
     let mut sink = StdSink::new(rt.stdout());
     let status = answer::answer(rt.alloc(), &words, &mut sink);
-    ExitCode::from(status.number())
+    status.code()
 }

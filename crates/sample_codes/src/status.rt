@@ -1,5 +1,8 @@
 ghost use Rattle.std.specs.Prelude.{◌≡◌};
+ghost use Rattle.std.specs.Process.{exit_status};
 ghost use Rattle.sample_codes.specs.Answers.{number_of};
+
+use std::process::ExitCode;
 
 /// How a run ends.
 #[derive(Clone, Copy, Debug, PartialEq, Eq)]
@@ -14,14 +17,14 @@ pub enum Status {
 
 impl Status {
     /// The exit status of the program.
-    pub fn number(self) -> u8
-        ensures { result ≡ number_of self }
+    pub fn code(self) -> ExitCode
+        ensures { exit_status result ≡ number_of self }
     {
-        match self {
+        ExitCode::from(match self {
             Status::Done => 0,
             Status::Usage => 2,
             Status::NoMemory => 4,
             Status::WriteFault => 6,
-        }
+        })
     }
 }
