@@ -84,7 +84,10 @@ def body_of(instructions, locals_=()):
     return unsigned(len(content)) + content
 
 
-def worst(types=(), bodies=((0, b""),), exports=(), tables=b"", elements=b"", segments=b"", imports=()):
+EMPTY = body_of(b"")
+
+
+def worst(types=(), bodies=((0, EMPTY),), exports=(), tables=b"", elements=b"", segments=b"", imports=()):
     """A contract that has these besides what a host calls.
 
     A body stands beside the number of its type, which is 0 for () to () and then counts the types given.
@@ -131,7 +134,7 @@ def calls_behind_a_branch(n):
     """Half of the code is a type's parameters, and half are calls of it where the operands are of any type."""
     call = CALL + unsigned(len(ENTRY_POINTS) + 1)
     body = UNREACHABLE + call * (n // 2)
-    return worst(types=[many_params(n)], bodies=[(0, body_of(body)), (1, body_of(b""))])
+    return worst(types=[many_params(n)], bodies=[(0, body_of(body)), (1, EMPTY)])
 
 
 def indirect_calls_behind_a_branch(n):
@@ -143,7 +146,7 @@ def indirect_calls_behind_a_branch(n):
 def calls_with_one_operand(n):
     """Each call finds one operand behind a branch."""
     call = I32_CONST + unsigned(0) + CALL + unsigned(len(ENTRY_POINTS) + 1)
-    return worst(types=[many_params(n)], bodies=[(0, body_of(UNREACHABLE + call * (n // 4))), (1, body_of(b""))])
+    return worst(types=[many_params(n)], bodies=[(0, body_of(UNREACHABLE + call * (n // 4))), (1, EMPTY)])
 
 
 def exports_of(name):
@@ -193,7 +196,7 @@ def operands_cleared(n):
 
 
 def small_functions(n):
-    return worst(bodies=[(0, body_of(b""))] * n)
+    return worst(bodies=[(0, EMPTY)] * n)
 
 
 def functions_with_locals(n):
