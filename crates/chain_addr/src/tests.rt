@@ -1,3 +1,5 @@
+mod uses;
+
 use crate::{AddrFault, AddrKind, classic, decode, encode, is_normal, predictable};
 use sha2::{Digest, Sha256};
 use std::test::Fail;

@@ -1,3 +1,5 @@
+mod uses;
+
 use crate::{
     CodeInfo, Contract, Counters, Facts, Key, RecordFault, Stored, key_bytes, key_of, stored_bytes,
     stored_of,
