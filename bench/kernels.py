@@ -29,6 +29,7 @@ CHARGES = 100_000_000
 MODULES = [(10, 3000), (100, 300), (800, 40)]
 KEYS = [100_000, 1_000_000]
 LAYERS, CHANGES, ROUNDS = 32, 100, 10
+RUNS_OF_MAPS, DELTAS, MERGES = [1, 4, 16], 10_000, 10
 
 
 def run(program, kernel, count, given=b""):
@@ -91,8 +92,16 @@ def changed(count):
     return base | changes, {key: value for key, value in changes.items() if base[key] != value}
 
 
-def got(count):
-    entries = changed(count)[0]
+def in_runs(count, runs):
+    """The map in so many runs, of which each but the oldest has a hundred changes."""
+    entries = {key: key for key in range(count)}
+    for turn in range(CHANGES, runs * CHANGES):
+        value = int.from_bytes((turn % CHANGES).to_bytes(4, "big"), "little")
+        entries[turn * SPREAD_32 % (1 << 32) % count] = value
+    return entries
+
+
+def got(count, entries):
     return sum(entries[turn * SPREAD_32 % (1 << 32) % count] for turn in range(count)) & MASK_64
 
 
@@ -107,9 +116,21 @@ def wanted(count):
         "store_8": stored(count),
         "charge": count,
         "layers_new": LAYERS,
-        "layers_get": got(count),
+        "layers_get": got(count, changed(count)[0]),
         "layers_next": sum(changed(count)[0].values()) & MASK_64,
         "layers_keep": len(changed(count)[1]),
+        "plain_get": got(count, in_runs(count, 1)),
+        "plain_next": sum(in_runs(count, 1).values()) & MASK_64,
+    }
+
+
+def wanted_of_runs(count, runs):
+    return {
+        "runs_new": runs,
+        "runs_get": got(count, in_runs(count, runs)),
+        "runs_next": sum(in_runs(count, runs).values()) & MASK_64,
+        "runs_change": (runs + 1) * DELTAS,
+        "runs_merge": MERGES,
     }
 
 
@@ -123,6 +144,9 @@ def compare_all(program):
     for count in [1, 1000, 70_000]:
         for kernel, expected in wanted(count).items():
             compare(program, kernel, count, b"", expected)
+    for count, runs in [(1000, 1), (1000, 17), (70_000, 4)]:
+        for kernel, expected in wanted_of_runs(count, runs).items():
+            compare(program, kernel, count, str(runs).encode(), expected)
     bodies = modules.bodies_of(10_000)
     compare(program, "read_module", 3, modules.module(bodies), 3 * sum(map(len, bodies)))
     print("checksums: as expected")
@@ -161,6 +185,29 @@ def time_layers(program, keys):
     print(f"{'layers_keep':<12} {keys:>11,} keys  {each:>9.0f} ns per change that is moved")
 
 
+def time_reads(program, keys):
+    """A map of so many keys as one sorted map, and as runs."""
+    new = least(program, "runs_new", keys, b"1")
+    for kernel in ["plain_get", "plain_next"]:
+        seconds = least(program, kernel, keys) - new
+        print(f"{kernel:<12} {keys:>11,} keys  {seconds / keys * 1e9:>9.0f} ns per call")
+    for runs in RUNS_OF_MAPS:
+        given = str(runs).encode()
+        new = least(program, "runs_new", keys, given)
+        for kernel in ["runs_get", "runs_next"]:
+            seconds = least(program, kernel, keys, given) - new
+            print(f"{kernel:<12} {keys:>11,} keys  {seconds / keys * 1e9:>9.0f} ns per call, {runs} runs")
+
+
+def time_writes(program):
+    for keys in [1000, 1_000_000]:
+        seconds = least(program, "runs_change", keys, b"1") - least(program, "runs_new", keys, b"1")
+        print(f"{'runs_change':<12} {keys:>11,} keys  {seconds / DELTAS * 1e9:>9.0f} ns for 100 changes")
+    keys, runs = 100_000, b"17"
+    seconds = least(program, "runs_merge", keys, runs) - least(program, "runs_new", keys, runs)
+    print(f"{'runs_merge':<12} {keys:>11,} keys  {seconds / MERGES * 1e3:>9.2f} ms for 17 runs")
+
+
 def main():
     if len(sys.argv) > 2:
         sys.exit(__doc__)
@@ -173,6 +220,8 @@ def main():
         time_modules(program, size, count)
     for keys in KEYS:
         time_layers(program, keys)
+    time_reads(program, 1_000_000)
+    time_writes(program)
 
 
 if __name__ == "__main__":

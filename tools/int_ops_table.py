@@ -1,9 +1,9 @@
 #!/usr/bin/env python3
-"""Writes the tables in crates/int_ops/src/tests: what each numeric instruction gives on the edge values
+"""Writes the tables in crates/machine_tests/src/operations: what each numeric instruction gives on the edge values
 of its width, computed with Python's whole numbers. Run it at the top of the repository, and then
 `rt fmt` in the crate."""
 
-FOLDER = "crates/int_ops/src/tests"
+FOLDER = "crates/machine_tests/src/operations"
 
 
 def edges(n):
@@ -121,7 +121,7 @@ def rows(items):
 
 
 def uses(items):
-    return ["// Written by tools/int_ops_table.py."] + [f"use crate::{item};" for item in items]
+    return ["// Written by tools/int_ops_table.py."] + [f"use int_ops::{item};" for item in items]
 
 
 def edge_line(n):

@@ -10,8 +10,6 @@ mod readers;
 mod sends;
 mod shortfall;
 mod stop;
-#[cfg(test)]
-mod tests;
 
 pub use burns::burn;
 pub use holdings::all_balances;

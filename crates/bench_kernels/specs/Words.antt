@@ -19,6 +19,13 @@ name_of kernels.LayersNew = codes "layers_new"
 name_of kernels.LayersGet = codes "layers_get"
 name_of kernels.LayersNext = codes "layers_next"
 name_of kernels.LayersKeep = codes "layers_keep"
+name_of kernels.PlainGet = codes "plain_get"
+name_of kernels.PlainNext = codes "plain_next"
+name_of kernels.RunsNew = codes "runs_new"
+name_of kernels.RunsGet = codes "runs_get"
+name_of kernels.RunsNext = codes "runs_next"
+name_of kernels.RunsChange = codes "runs_change"
+name_of kernels.RunsMerge = codes "runs_merge"
 
 -- one or more decimal digits, and maybe a plus before them, that write a number below 2^32
 abbrev pub IsNumber : List ℕ → ℕ → Type 0

@@ -18,6 +18,13 @@ pub enum Kernel {
     LayersGet,
     LayersNext,
     LayersKeep,
+    PlainGet,
+    PlainNext,
+    RunsNew,
+    RunsGet,
+    RunsNext,
+    RunsChange,
+    RunsMerge,
 }
 
 impl Kernel {
@@ -41,6 +48,13 @@ impl Kernel {
             "layers_get" => Kernel::LayersGet,
             "layers_next" => Kernel::LayersNext,
             "layers_keep" => Kernel::LayersKeep,
+            "plain_get" => Kernel::PlainGet,
+            "plain_next" => Kernel::PlainNext,
+            "runs_new" => Kernel::RunsNew,
+            "runs_get" => Kernel::RunsGet,
+            "runs_next" => Kernel::RunsNext,
+            "runs_change" => Kernel::RunsChange,
+            "runs_merge" => Kernel::RunsMerge,
             _ => return None,
         })
     }

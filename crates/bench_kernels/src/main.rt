@@ -8,6 +8,7 @@ mod memory;
 mod modules;
 mod numbers;
 mod run;
+mod snapshots;
 mod state;
 
 use anyhow::Result;

@@ -1,7 +1,7 @@
 ghost use Rattle.linear_memory.specs.Numbers.{IsWidth};
 
 use crate::kernel::Kernel;
-use crate::{gas, machines, memory, modules, numbers, state};
+use crate::{gas, machines, memory, modules, numbers, snapshots, state};
 use anyhow::{Result, anyhow};
 use std::alloc::{AllocError, Global};
 use std::io::Read;
@@ -80,6 +80,36 @@ fn layers(alloc: Global, kernel: Kernel, count: u32) -> Result<u64, AllocError> 
     }
 }
 
+/// The work on a map of so many keys.
+fn plain(alloc: Global, kernel: Kernel, count: u32) -> Result<u64, AllocError> {
+    let plain = state::base(alloc, count)?;
+    match kernel {
+        Kernel::PlainGet => state::get(alloc, &plain, count),
+        _ => state::next(alloc, &plain, count),
+    }
+}
+
+/// The work on a map of so many keys in as many runs as standard input says.
+fn runs(rt: &(impl Input + AllocGlobal), kernel: Kernel, count: u32) -> Result<u64> {
+    let alloc = rt.alloc();
+    let bytes = input(rt)?;
+    let Ok(number) = str::from_utf8(&bytes) else {
+        return Err(anyhow!("no number of runs is on standard input"));
+    };
+    let Ok(runs) = number.trim().parse::<u32>() else {
+        return Err(anyhow!("no number of runs is on standard input"));
+    };
+    let snapshot = snapshots::snapshot(alloc, count, runs)?;
+    let sum = match kernel {
+        Kernel::RunsGet => state::get(alloc, &snapshot, count)?,
+        Kernel::RunsNext => state::next(alloc, &snapshot, count)?,
+        Kernel::RunsChange => snapshots::change_all(alloc, &snapshot)?,
+        Kernel::RunsMerge => snapshots::merge_all(alloc, &snapshot)?,
+        _ => u64::from(snapshot.runs()),
+    };
+    Ok(sum)
+}
+
 /// Does the work of a kernel so often, and answers its checksum.
 pub fn run(rt: &(impl Input + AllocGlobal), kernel: Kernel, count: u32) -> Result<u64> {
     let alloc = rt.alloc();
@@ -97,6 +127,12 @@ pub fn run(rt: &(impl Input + AllocGlobal), kernel: Kernel, count: u32) -> Resul
         Kernel::LayersNew | Kernel::LayersGet | Kernel::LayersNext | Kernel::LayersKeep => layers(
             alloc, kernel, count,
         )?,
+        Kernel::PlainGet | Kernel::PlainNext => plain(alloc, kernel, count)?,
+        Kernel::RunsNew
+        | Kernel::RunsGet
+        | Kernel::RunsNext
+        | Kernel::RunsChange
+        | Kernel::RunsMerge => runs(rt, kernel, count)?,
     };
     Ok(sum)
 }

@@ -1,3 +1,6 @@
+ghost use Rattle.std.specs.Prelude.{◌≡◌};
+ghost use Rattle.kv_layers.specs.Layers.{depth};
+
 use kv_layers::{Base, Layers, Order, Plain};
 use std::alloc::{AllocError, Global};
 
@@ -9,8 +12,8 @@ const CHANGES: u32 = 100;
 /// How often the layers are kept.
 const ROUNDS: u32 = 10;
 
-/// A base of so many keys.
-fn base(alloc: Global, count: u32) -> Result<Plain, AllocError> {
+/// A map of so many keys.
+pub fn base(alloc: Global, count: u32) -> Result<Plain, AllocError> {
     let mut plain = Plain::new(alloc);
     for turn in 0..count {
         let key = turn.to_be_bytes().to_vec(alloc)?;
@@ -21,12 +24,14 @@ fn base(alloc: Global, count: u32) -> Result<Plain, AllocError> {
 }
 
 /// Changes a hundred values in the newest layer.
-fn change(
+pub fn change<B: Base>(
     alloc: Global,
-    layers: &mut Layers<Plain>,
+    layers: &mut Layers<B>,
     layer: u32,
     count: u32,
-) -> Result<(), AllocError> {
+) -> Result<(), AllocError>
+    ensures { depth layers.new ≡ depth layers.old }
+{
     for turn in 0..CHANGES {
         let at = layer
             .wrapping_mul(CHANGES)
@@ -74,11 +79,11 @@ fn number(value: &[u8]) -> u64 {
 }
 
 /// Sums the values of so many keys.
-pub fn get(alloc: Global, layers: &Layers<Plain>, count: u32) -> Result<u64, AllocError> {
+pub fn get<B: Base>(alloc: Global, map: &B, count: u32) -> Result<u64, AllocError> {
     let mut sum = 0u64;
     for turn in 0..count {
         let at = turn.wrapping_mul(0x9E37_79B1) % count;
-        if let Some(value) = layers.get(alloc, &at.to_be_bytes())? {
+        if let Some(value) = map.get(alloc, &at.to_be_bytes())? {
             sum = sum.wrapping_add(number(&value));
         }
     }
@@ -86,11 +91,11 @@ pub fn get(alloc: Global, layers: &Layers<Plain>, count: u32) -> Result<u64, All
 }
 
 /// Sums the values of so many entries, in the order of their keys.
-pub fn next(alloc: Global, layers: &Layers<Plain>, count: u32) -> Result<u64, AllocError> {
+pub fn next<B: Base>(alloc: Global, map: &B, count: u32) -> Result<u64, AllocError> {
     let mut sum = 0u64;
     let mut from = Vec::new(alloc);
     for _ in 0..count {
-        let Some((key, value)) = layers.next_in(alloc, Some(&from), None, Order::Ascending)? else {
+        let Some((key, value)) = map.next_in(alloc, Some(&from), None, Order::Ascending)? else {
             break;
         };
         sum = sum.wrapping_add(number(&value));

@@ -10,8 +10,6 @@ mod groups;
 mod laws;
 mod letters;
 mod read;
-#[cfg(test)]
-mod tests;
 mod unpack;
 
 pub use bech32::{decode, encode, is_normal};

@@ -24,6 +24,3 @@ pub use laws::{
 pub use record::{CodeInfo, Contract, Counters, Facts, Stored};
 pub use record_reading::stored_of;
 pub use record_writing::stored_bytes;
-
-#[cfg(test)]
-mod tests;

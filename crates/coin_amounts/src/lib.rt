@@ -6,8 +6,6 @@ mod coin;
 mod coins;
 mod denom;
 mod read;
-#[cfg(test)]
-mod tests;
 mod text;
 
 pub use amount::{AmountBad, read_amount};

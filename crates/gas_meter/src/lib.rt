@@ -3,8 +3,6 @@
 
 mod meter;
 mod schedule;
-#[cfg(test)]
-mod tests;
 
 pub use meter::{Meter, OutOfGas};
 pub use schedule::Schedule;

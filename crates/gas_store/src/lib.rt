@@ -9,8 +9,6 @@ mod scan;
 mod scans;
 mod scoped;
 mod stop;
-#[cfg(test)]
-mod tests;
 
 pub use laws::{storages_are_typed, storages_change_alone};
 pub use scoped::Scoped;

@@ -14,8 +14,6 @@ mod served;
 mod signature;
 mod sizes;
 mod stop;
-#[cfg(test)]
-mod tests;
 mod text;
 
 pub use code::ValidCode;

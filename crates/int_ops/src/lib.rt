@@ -5,8 +5,6 @@ mod instructions;
 mod num;
 mod on_i32;
 mod on_i64;
-#[cfg(test)]
-mod tests;
 
 pub use instructions::{binary, is_binary, is_unary, unary};
 pub use num::{Num, NumTrap};

@@ -10,8 +10,6 @@ mod merge;
 mod order;
 mod plain;
 mod sorted;
-#[cfg(test)]
-mod tests;
 
 pub use base::Base;
 pub use bounds::Bounds;

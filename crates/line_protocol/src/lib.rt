@@ -12,8 +12,6 @@ mod line_form;
 mod lines;
 mod prefix;
 mod reply;
-#[cfg(test)]
-mod tests;
 mod texts;
 
 pub use fields::{Form, each_at, text_at};

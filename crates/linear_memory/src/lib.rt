@@ -4,8 +4,6 @@
 mod memory;
 mod numbers;
 mod region;
-#[cfg(test)]
-mod tests;
 
 pub use memory::{Memory, OutOfBounds};
 pub use region::{RegionBad, RegionFault};

@@ -13,8 +13,6 @@ mod source;
 mod std_sink;
 mod std_source;
 mod sure_source;
-#[cfg(test)]
-mod tests;
 mod unread;
 mod words;
 

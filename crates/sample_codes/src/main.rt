@@ -4,8 +4,6 @@
 mod answer;
 mod sample;
 mod status;
-#[cfg(test)]
-mod tests;
 
 use outside_io::{StdSink, words_of};
 use status::Status;

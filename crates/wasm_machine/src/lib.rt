@@ -17,8 +17,6 @@ mod run;
 mod start;
 mod state;
 mod stop;
-#[cfg(test)]
-mod tests;
 mod turn;
 mod values;
 

@@ -20,6 +20,3 @@ mod types;
 pub use reading::read;
 pub use spelling::spells;
 pub use stop::ReadStop;
-
-#[cfg(test)]
-mod tests;

@@ -36,6 +36,3 @@ pub use refusal::GateRefusal;
 pub use segment::{Elem, Seg};
 pub use sort::Sort;
 pub use value::{ValType, Value};
-
-#[cfg(test)]
-mod uses;

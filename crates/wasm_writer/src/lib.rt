@@ -18,6 +18,3 @@ mod writing;
 pub use laws::spellings_are_shortest;
 pub use samples::{common, echo, keeper, sign, spin};
 pub use writing::write;
-
-#[cfg(test)]
-mod tests;

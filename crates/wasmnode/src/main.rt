@@ -11,14 +11,10 @@ mod entry;
 mod node;
 mod opening;
 mod options;
-#[cfg(test)]
-mod plain;
 mod sends;
 mod serial;
 mod status;
 mod stop;
-#[cfg(test)]
-mod tests;
 mod words;
 
 use outside_io::{NoShelf, OpenGate, StdSink, StdSource, words_of};

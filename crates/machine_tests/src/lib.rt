@@ -1,0 +1,9 @@
+//! Tests of operations, memory and machine.
+#![tactic(auto)]
+
+#[cfg(test)]
+mod machine;
+#[cfg(test)]
+mod memory;
+#[cfg(test)]
+mod operations;

@@ -1,0 +1,309 @@
+#!/usr/bin/env python3
+"""Runs the built programs on whole inputs, and compares what they write and their statuses with what is
+wanted: each kind of bad line, addresses in either case, limits, reads and writes that fail on the way, and
+blocks of sends beside a plain map of balances. Run it after rt ci, as tools/check_answers.py [FOLDER OF crates].
+It writes nothing where all is as it should be."""
+import base64
+import hashlib
+import json
+import os
+import random
+import resource
+import socket
+import subprocess
+import sys
+import tempfile
+
+TOP = os.path.dirname(os.path.dirname(os.path.abspath(__file__)))
+CRATES = sys.argv[1] if len(sys.argv) > 1 else os.path.join(TOP, "crates")
+NODE = os.path.join(CRATES, "wasmnode", "out", "wasmnode")
+SAMPLES = os.path.join(CRATES, "sample_codes", "out", "sample_codes")
+
+DONE, USAGE, BAD_LINE, READ_FAULT, WRITE_FAULT = 0, 2, 3, 5, 6
+
+A = "abcdef1qpzry9x8gf2tvdw0s3jn54khce6mua7lmqqqxw"
+B = "abcdef1qpzry9x8gf2tvdw0s3jn54khce6mua77xk54mu"
+C = "abcdef1qpzry9x8gf2tvdw0s3jn54khce6mua7ag9pr4r"
+
+failed = False
+
+
+def complain(what, told):
+    global failed
+    failed = True
+    print(f"check_answers: {what}: {told}")
+
+
+def compare(what, found, status, wanted):
+    """A program's status and output beside those that are wanted."""
+    if found.returncode != status:
+        complain(what, f"the status is {found.returncode}, and not {status}")
+    if found.stdout != wanted:
+        place = next((i for i, (a, b) in enumerate(zip(found.stdout, wanted)) if a != b), min(len(found.stdout), len(wanted)))
+        complain(what, f"other bytes from {place} on: {found.stdout[place:place + 200]} and not {wanted[place:place + 200]}")
+
+
+def expect(what, words, given, status, wanted, program=NODE):
+    compare(what, subprocess.run([program, *words], input=given, stdout=subprocess.PIPE), status, wanted)
+
+
+def text(value):
+    """A value as the node writes it: no blanks, and keys that rise."""
+    return json.dumps(value, separators=(",", ":"), sort_keys=True)
+
+
+def lines(*values):
+    """A line for each; what is no text yet is written as the node would."""
+    return b"".join((v if isinstance(v, str) else text(v)).encode() + b"\n" for v in values)
+
+
+def coins(*list):
+    return [{"amount": str(amount), "denom": denom} for amount, denom in list]
+
+
+def genesis(authority=None, balances=()):
+    return {"genesis": {"authority": authority, "balances": [{"address": who, "coins": coins(*held)} for who, held in balances],
+                        "capabilities": [], "chain_id": "t-1", "prefix": "abcdef", "query_gas": 1000000, "time": "0"}}
+
+
+def tx(gas, sender, recipient, *list):
+    return {"gas": gas, "msgs": [{"bank": {"send": {"amount": coins(*list), "to_address": recipient}}}], "sender": sender}
+
+
+def block(time, *txs):
+    return {"block": {"time": str(time), "txs": txs}}
+
+
+def query(address, denom="utok", height=None):
+    return {"query": {"client": 1, "height": height, "request": {"bank": {"balance": {"address": address, "denom": denom}}}}}
+
+
+def sent(gas, sender, recipient, amount):
+    attributes = [{"key": k, "value": v} for k, v in (("recipient", recipient), ("sender", sender), ("amount", amount))]
+    return {"code": 0, "codespace": "", "data": [None], "detail": "", "events": [{"attributes": attributes, "type": "transfer"}], "gas": gas}
+
+
+def not_sent(code, gas, detail):
+    return {"code": code, "codespace": "sdk", "data": [], "detail": detail, "events": [], "gas": gas}
+
+
+class Digests:
+    """The answers to blocks, each with the digest of the one before it and of its own body."""
+
+    def __init__(self):
+        self.last = bytes(32)
+        self.height = 0
+
+    def answer(self, *results):
+        self.height += 1
+        body = {"height": self.height, "results": results}
+        self.last = hashlib.sha256(self.last + text(body).encode()).digest()
+        return {"block": {"body": body, "digest": self.last.hex()}}
+
+
+def balance(height, amount, denom="utok"):
+    value = base64.b64encode(text({"amount": {"amount": str(amount), "denom": denom}}).encode()).decode()
+    return {"query": {"client": 1, "gas": 1000, "height": height, "n": height, "result": {"ok": {"ok": value}}}}
+
+
+def bad(kind, number):
+    return {"bad_line": {"kind": kind, "line": number}}
+
+
+GENESIS = genesis(A, [(A, [(10, "utok")])])
+OPENED = {"genesis": {"chain_id": "t-1", "height": 0}}
+BLOCK = block(1, tx(5000, A, B, (3, "utok")))
+BLOCK_ANSWER = Digests().answer(sent(1100, A, B, "3utok"))
+QUERY = query(A)
+QUERY_ANSWER = balance(1, 7)
+# of a repeated field the last one counts
+REPEATED = text(QUERY).replace('"client":1', '"client":2,"client":1')
+
+
+def each_line_is_answered():
+    digests = Digests()
+    first = digests.answer(sent(1100, A, B, "3utok"))
+    if first["block"]["digest"] != "26c90ca225e9726b90811a2ec3833dcfe7437bd2763ca9c982c0f2203fc4033c":
+        complain("the first block", "its digest isn't the one that was computed elsewhere")
+    # one has too little gas by one, and one sends a coin more than there is
+    failing = block(2, tx(1099, A, B, (1, "utok")), tx(1100, A, B, (8, "utok")))
+    second = digests.answer(not_sent(11, 1099, "OutOfGas"), not_sent(5, 1100, "NotEnough utok 7 8"))
+    given = lines("", GENESIS, " \t\r", BLOCK, REPEATED, failing, QUERY)
+    expect("each kind of line", ["serial"], given, DONE, lines(OPENED, first, QUERY_ANSWER, second, balance(2, 7)))
+    expect("no line feed at the end", ["serial"], lines(GENESIS)[:-1], DONE, lines(OPENED))
+
+
+def a_send_to_oneself_changes_nothing():
+    given = block(1, tx(1100, A, A, (10, "utok")), tx(1100, A, A, (11, "utok")))
+    wanted = Digests().answer(sent(1100, A, A, "10utok"), not_sent(5, 1100, "NotEnough utok 10 11"))
+    expect("a send to oneself", ["serial"], lines(GENESIS, given), DONE, lines(OPENED, wanted))
+
+
+def a_bad_line_ends_the_run():
+    no_message = block(1, {"gas": 1, "msgs": [], "sender": A})
+    fraction = text(block(1, tx(1, A, B, (1, "utok")))).replace('"gas":1', '"gas":1.0')
+    greatest = 2**128 - 1
+    # lines, the answers to them before the bad one, its kind and its number
+    for given, answers, kind, number in [
+        ([], [], "missing", 1),
+        (["", " \t\r"], [], "missing", 3),
+        ([BLOCK], [], "form", 1),
+        (["", QUERY], [], "form", 2),
+        ([GENESIS, GENESIS], [OPENED], "form", 2),
+        ([GENESIS, '{"block":{}}'], [OPENED], "form", 2),
+        ([GENESIS, BLOCK, "", "{"], [OPENED, BLOCK_ANSWER], "form", 4),
+        # two holdings of one address, in two spellings, and a supply of 2^128
+        ([genesis(None, [(A, []), (A.upper(), [])])], [], "form", 1),
+        ([genesis(None, [(A, [(greatest, "utok")]), (B, [(1, "utok")])])], [], "form", 1),
+        # no message, no coin, a number with a fraction, and a height that is asked
+        ([GENESIS, no_message], [OPENED], "form", 2),
+        ([GENESIS, block(1, tx(1, A, B))], [OPENED], "form", 2),
+        ([GENESIS, fraction], [OPENED], "form", 2),
+        ([GENESIS, query(A, height=0)], [OPENED], "form", 2),
+    ]:
+        expect(f"a bad line of {given}", ["serial"], lines(*given), BAD_LINE, lines(*answers, bad(kind, number)))
+
+
+def an_address_is_read_in_either_case():
+    wanted = lines(OPENED, BLOCK_ANSWER, QUERY_ANSWER)
+    given = lines(genesis(None, [(A.upper(), [(10, "utok")])]), block(1, tx(5000, A.upper(), B, (3, "utok"))), query(A.upper()))
+    expect("addresses in upper case", ["serial"], given, DONE, wanted)
+    given = lines(GENESIS, block(1, tx(5000, A, B.upper(), (3, "utok"))), QUERY)
+    expect("a recipient in upper case", ["serial"], given, DONE, wanted)
+    # nothing, no separator, a letter that bech32 lacks, a wrong checksum, letters in both cases, another prefix, no
+    # bytes, 65 bytes, bits that fill no byte, and bits other than 0 behind the last byte
+    for none in ["", "a", "abcdef1bpzry9x8gf2tvdw0s3jn54khce6mua7lmqqqxw", "abcdef1qpzry9x8gf2tvdw0s3jn54khce6mua7lmqqqxq",
+                 "Abcdef1qpzry9x8gf2tvdw0s3jn54khce6mua7lmqqqxw", "abcdeg1qpzry9x8gf2tvdw0s3jn54khce6mua7ls7htt9", "abcdef1hu3qdg",
+                 "abcdef1qqqqqqqqqqqqqqqqqqqqqqqqqqqqqqqqqqqqqqqqqqqqqqqqqqqqqqqqqqqqqqqqqqqqqqqqqqqqqqqqqqqqqqqqqqqqqqqqqqqqeumj02",
+                 "abcdef1qqqlewqfh", "abcdef1qp2a4y4w"]:
+        for first in [genesis(none), genesis(None, [(none, [(10, "utok")])])]:
+            expect(f"the address {none}", ["serial"], lines(first), BAD_LINE, lines(bad("form", 1)))
+        for second in [block(1, tx(5000, none, B, (3, "utok"))), block(1, tx(5000, A, none, (3, "utok"))), query(none)]:
+            expect(f"the address {none}", ["serial"], lines(GENESIS, second), BAD_LINE, lines(OPENED, bad("form", 2)))
+
+
+def limits_are_kept():
+    mebibytes = 8 * 2**20
+    for what, line, status, answers in [
+        ("a byte that is no text", b"\xff", BAD_LINE, [bad("form", 2)]),
+        ("a line of eight mebibytes", b" " * mebibytes, DONE, []),
+        ("a line of a byte more", b" " * (mebibytes + 1), BAD_LINE, [bad("long", 2)]),
+    ]:
+        expect(what, ["serial"], lines(GENESIS) + line, status, lines(OPENED, *answers))
+    for lists, status, answer in [(125, DONE, Digests().answer()), (126, BAD_LINE, bad("form", 2))]:
+        nested = '{"block":{"time":"1","txs":[],"x":' + "[" * lists + "]" * lists + "}}"
+        expect(f"{lists} lists in one another", ["serial"], lines(GENESIS, nested), status, lines(OPENED, answer))
+    blanks = b" " * 16383 + b"\n"
+    node = subprocess.Popen([NODE, "serial"], stdin=subprocess.PIPE, stdout=subprocess.PIPE)
+    for _ in range(2**30 // len(blanks)):
+        node.stdin.write(blanks)
+    found, _ = node.communicate(b"\n")
+    compare("a gibibyte and a byte", subprocess.CompletedProcess([], node.returncode, found), BAD_LINE, lines(bad("total", 65537)))
+
+
+def a_failed_read_ends_the_run_after_the_answers_before_it():
+    given, answers = lines(GENESIS, BLOCK, QUERY), [OPENED, BLOCK_ANSWER, QUERY_ANSWER]
+    for taken in [*range(0, len(given), 50), len(given)]:
+        here, there = socket.socketpair()
+        # what the other end leaves unread makes the read behind its last byte fail
+        here.send(b"x")
+        there.sendall(given[:taken])
+        there.close()
+        found = subprocess.run([NODE, "serial"], stdin=here, stdout=subprocess.PIPE)
+        here.close()
+        whole = given[:taken].count(b"\n")
+        compare(f"a read that fails behind {taken} bytes", found, READ_FAULT, lines(*answers[:whole]))
+
+
+def limited(program, words, given, size):
+    """Runs with an output that takes no more bytes than this."""
+    with tempfile.TemporaryFile() as out:
+        found = subprocess.run([program, *words], input=given, stdout=out, restore_signals=False,
+                               preexec_fn=lambda: resource.setrlimit(resource.RLIMIT_FSIZE, (size, size)))
+        out.seek(0)
+        return subprocess.CompletedProcess([], found.returncode, out.read())
+
+
+def a_failed_write_ends_the_run_after_the_bytes_before_it():
+    given, whole = lines(GENESIS, BLOCK, QUERY), lines(OPENED, BLOCK_ANSWER, QUERY_ANSWER)
+    for size in range(len(whole)):
+        compare(f"a write that fails behind {size} bytes", limited(NODE, ["serial"], given, size), WRITE_FAULT, whole[:size])
+
+
+def blocks_of_sends_beside_a_plain_map():
+    amounts = {(A, "utok"): 60, (A, "atok"): 50, (B, "utok"): 40}
+    given, answers = [genesis(None, [(A, [(60, "utok"), (50, "atok")]), (B, [(40, "utok")])])], [OPENED]
+    chance, digests = random.Random(1), Digests()
+
+    def result(gas, sender, recipient, list):
+        cost = 1000 + 100 * len(list)
+        if gas < cost:
+            return not_sent(11, gas, "OutOfGas")
+        for amount, denom in list:
+            have = amounts.get((sender, denom), 0)
+            if have < amount:
+                return not_sent(5, cost, f"NotEnough {denom} {have} {amount}")
+        for amount, denom in list:
+            amounts[sender, denom] -= amount
+            amounts[recipient, denom] = amounts.get((recipient, denom), 0) + amount
+        return sent(cost, sender, recipient, ",".join(f"{amount}{denom}" for amount, denom in list))
+
+    for height in range(1, 41):
+        sends = []
+        for _ in range(20):
+            list = [(chance.randrange(1, 20), denom) for denom in chance.choice([["atok"], ["utok"], ["atok", "utok"]])]
+            sends.append((1050 + 50 * chance.randrange(8), chance.choice([A, B, C]), chance.choice([A, B, C]), list))
+        given.append(block(height, *(tx(gas, sender, recipient, *list) for gas, sender, recipient, list in sends)))
+        answers.append(digests.answer(*(result(*send) for send in sends)))
+        for who in [A, B, C]:
+            for denom in ["atok", "utok"]:
+                given.append(query(who, denom))
+                answers.append(balance(height, amounts.get((who, denom), 0), denom))
+    expect("blocks of sends beside a plain map", ["serial"], lines(*given), DONE, lines(*answers))
+
+
+def codes_are_checked():
+    for line, status, answer in [
+        (b"", DONE, {"check": "Read Cut 0"}),
+        (b"H4sI\nH4sI\n", DONE, {"check": "Gzip"}),
+        (b"AGFzbQEAAAA=", DONE, {"check": "MemoryMissing"}),
+        (b"AGFzbQEAAAAFAwEAAQ==\n", DONE, {"check": "ExportMissing interface_version_8"}),
+        (b"A", BAD_LINE, bad("base64", 1)),
+        (b" \t", BAD_LINE, bad("base64", 1)),
+        (b"H4sI\r\n", BAD_LINE, bad("base64", 1)),
+        (b"H4sI ", BAD_LINE, bad("base64", 1)),
+    ]:
+        expect(f"check of {line}", ["check", "--caps", "a,,staking"], line, status, lines(answer))
+
+
+def other_words_are_answered_with_the_usage():
+    usage = "usage: wasmnode run|serial|check|gen N|soak N [options]"
+    for words in [[], ["serial", "--stats"], ["Serial"]]:
+        expect(f"the words {words}", words, lines(GENESIS), USAGE, lines(usage))
+
+
+def samples_are_named_by_one_word():
+    usage = b"usage: sample_codes echo|spin|keeper|common|sign\n"
+    codes = {name: subprocess.run([SAMPLES, name], stdout=subprocess.PIPE).stdout for name in ["echo", "spin", "keeper", "common", "sign"]}
+    if len(set(codes.values())) != 5 or not all(code.startswith(b"\0asm\1\0\0\0") for code in codes.values()):
+        complain("the samples", "they aren't five codes")
+    for name, code in codes.items():
+        expect(f"the sample {name}", [name], b"", DONE, code, SAMPLES)
+    for words in [[], [""], ["Echo"], ["echo "], ["echo", "spin"]]:
+        expect(f"the words {words}", words, b"", USAGE, usage, SAMPLES)
+    for name, whole in [("sign", codes["sign"]), ("sing", usage)]:
+        compare(f"{name}, and a full output", limited(SAMPLES, [name], b"", 20), WRITE_FAULT, whole[:20])
+
+
+each_line_is_answered()
+a_send_to_oneself_changes_nothing()
+a_bad_line_ends_the_run()
+an_address_is_read_in_either_case()
+limits_are_kept()
+a_failed_read_ends_the_run_after_the_answers_before_it()
+a_failed_write_ends_the_run_after_the_bytes_before_it()
+blocks_of_sends_beside_a_plain_map()
+codes_are_checked()
+other_words_are_answered_with_the_usage()
+samples_are_named_by_one_word()
+sys.exit(failed)
