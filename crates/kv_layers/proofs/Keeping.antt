@@ -66,7 +66,7 @@ pub LeftTo-layer : (base : Bytes) (layer next : Layer) (layers : List Layer) (cu
 LeftTo-layer base layer next layers current [] piles = absurd piles
 LeftTo-layer base layer next layers current (map ∷ saved) piles = (map, saved, refl, piles.1, piles.0)
 
-rising_views : (changes : List (Vec ℕ × Option (Vec ℕ))) → IsRising changes → IsStrictlySortedBy bytes_cmp (map (λ e. e.0) (map change_view changes))
+pub rising_views : (changes : List (Vec ℕ × Option (Vec ℕ))) → IsRising changes → IsStrictlySortedBy bytes_cmp (map (λ e. e.0) (map change_view changes))
 unfolding IsStrictlySortedBy
 rising_views [] h = tt
 rising_views (c ∷ changes) h = (below c.0 changes h.0, rising_views changes h.1)

@@ -1,5 +1,5 @@
 -- The order of keys, and bounds.
-use Rattle.std.proofs.Common.{◌≡◌, ℕ, ◌⊎◌, inl, inr, Bool, true, false, ◌&&◌, List, [], ◌∷◌, ◌++◌, Option, Some, None, refl, sym, ◌∙◌, ap, true≢false, arith}
+use Rattle.std.proofs.Common.{◌≡◌, ℕ, ◌⊎◌, inl, inr, Bool, true, false, not, ◌&&◌, List, [], ◌∷◌, ◌++◌, Option, Some, None, refl, sym, ◌∙◌, ap, true≢false, arith}
 use Rattle.std.specs.declared.cmp.Ordering.{Ordering}
 use Rattle.std.specs.declared.cmp.Ordering.TheVariants.{Less, Equal, Greater}
 use Rattle.std.specs.Ordering.{is_lt, is_le, ordering_reverse, nat_cmp, ordering_then}
@@ -119,3 +119,19 @@ crossed_holds_none (Some lo) None key h w = h
 crossed_holds_none (Some lo) (Some hi) key h w =
     let lt = le_lt lo key hi (first_of _ _ w) (less_of _ (second_of (is_le (bytes_cmp lo key)) _ w)) in
     true≢false (sym (is_lt_of _ (nat_list_cmp_total.trans lo hi lo lt h)) ∙ comes_before-self Ascending lo)
+
+same_bool : (a b : Bool) → (a ≡ true → b ≡ true) → (b ≡ true → a ≡ true) → a ≡ b
+same_bool true true f g = refl
+same_bool true false f g = sym (f refl)
+same_bool false true f g = g refl
+same_bool false false f g = refl
+
+-- the keys within the narrowed bounds are just those within the bounds that come after the key
+pub within-narrowed : (order : Order) (lo hi : Option (List ℕ)) (key : List ℕ) → is_within lo hi key ≡ true → (q : List ℕ) → is_within (narrowed_lower order lo key) (narrowed_upper order hi key) q ≡ (is_within lo hi q && comes_before order key q)
+within-narrowed order lo hi key w q =
+    same_bool _ _ (λ h. let both_hold = within_narrowed order lo hi key q w h in both _ _ both_hold.0 both_hold.1)
+    (λ h. narrowed_within order lo hi key q (first_of _ _ h) (second_of (is_within lo hi q) _ h))
+
+-- a key lies at a lower bound or above it if it doesn't lie below it
+pub from-not_below : (lo key : List ℕ) → is_le (bytes_cmp lo key) ≡ not (is_lt (bytes_cmp key lo))
+from-not_below lo key = rw (turned lo key) (elim (bytes_cmp key lo) as (λ r. is_le (ordering_reverse r) ≡ not (is_lt r)) [ Less ↦ refl | Equal ↦ refl | Greater ↦ refl ])

@@ -5,6 +5,7 @@ pub mod Sorted
 pub mod Maps
 pub mod PlainMap
 pub mod Changes
+pub mod Rising
 pub mod Delta
 pub mod Layers
 pub mod Lowest

@@ -1,4 +1,3 @@
--- Not for readers of contracts: it serves the proofs of this crate alone.
 -- The first of two entries in the order of a scan.
 use Rattle.std.specs.Prelude.{ℕ, List, Option, Some, None, if◌then◌else◌}
 use denote.Ref.{Bor}

@@ -1,7 +1,8 @@
-ghost use Rattle.std.specs.Prelude.{◌≡◌, ◌↔◌, IfOk, OnOk, IsTrue};
+ghost use Rattle.std.specs.Prelude.{◌≡◌, ◌↔◌, ◌&&◌, ℕ, true, List, IfOk, OnOk, IsTrue};
 ghost use Rattle.std.specs.Option.{option_copied};
 ghost use Rattle.std.specs.Range.Bound.{bound_map};
 ghost use Rattle.std.specs.Map.Iter.{deref};
+ghost use Rattle.kv_layers.specs.Next.{comes_before, is_from, is_below, is_within};
 ghost use Rattle.kv_layers.specs.Plain.{value_view};
 
 use crate::order::Order;
@@ -72,10 +73,21 @@ impl Bounds {
         }
     }
 
+    /// Whether the key lies within the bounds.
+    pub fn holds(&self, key: &[u8]) -> bool
+        ensures { result ≡ is_within (lower self.now) (upper self.now) key.now }
+    {
+        is_from(&self.lo, key) && is_below(&self.hi, key)
+    }
+
     /// Leaves only the keys that come after the one given, which is to lie within the bounds.
     pub fn narrow_past(&mut self, key: Vec<u8>, order: Order) -> Result<(), AllocError>
         ensures lo { OnOk result (lower self.new ≡ narrowed_lower order (lower self.old) key.items) }
         ensures hi { OnOk result (upper self.new ≡ narrowed_upper order (upper self.old) key.items) }
+        ensures past { OnOk result (is_within (lower self.old) (upper self.old) key.items ≡ true →
+            (other : List ℕ) → is_within (lower self.new) (upper self.new) other
+            ≡ (is_within (lower self.old) (upper self.old) other
+            && comes_before order key.items other)) }
     {
         let mut key = key;
         match order {
@@ -86,6 +98,24 @@ impl Bounds {
             Order::Descending => self.hi = Some(key),
         }
         Ok(())
+    }
+}
+
+fn is_from(lo: &Option<Vec<u8>>, key: &[u8]) -> bool
+    ensures { result ≡ is_from (value_view lo.now) key.now }
+{
+    match lo {
+        Some(lo) => !Order::Ascending.comes_before(key, lo),
+        None => true,
+    }
+}
+
+fn is_below(hi: &Option<Vec<u8>>, key: &[u8]) -> bool
+    ensures { result ≡ is_below (value_view hi.now) key.now }
+{
+    match hi {
+        Some(hi) => Order::Ascending.comes_before(key, hi),
+        None => true,
     }
 }
 

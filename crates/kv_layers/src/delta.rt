@@ -1,3 +1,6 @@
+ghost use Rattle.std.specs.Prelude.{map};
+ghost use Rattle.kv_layers.specs.Rising.{change_view, KeysRise, KeysRise-prop};
+
 use crate::layer::Change;
 
 /// The least changes that lead from one map to another: keys rise, and a key without a value is
@@ -5,4 +8,5 @@ use crate::layer::Change;
 #[derive(Debug, Drop)]
 pub struct Delta {
     pub changes: Vec<Change>,
+    ghost rising: { KeysRise (map change_view changes.items) } by { KeysRise-prop (map change_view changes.items) },
 }

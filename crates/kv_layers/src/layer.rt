@@ -24,7 +24,8 @@ pub(crate) fn newest_change<'l>(layers: &'l [Layer], key: &[u8]) -> Option<&'l O
     }
 }
 
-pub(crate) fn owned_value(value: Option<&Vec<u8>>) -> Result<Option<Vec<u8>>, AllocError>
+/// A copy of the value.
+pub fn owned_value(value: Option<&Vec<u8>>) -> Result<Option<Vec<u8>>, AllocError>
     ensures { IfOk result (λ owned. value_view owned ≡ value_view (option_copied value.entry)) }
 {
     match value {
@@ -33,7 +34,8 @@ pub(crate) fn owned_value(value: Option<&Vec<u8>>) -> Result<Option<Vec<u8>>, Al
     }
 }
 
-pub(crate) fn owned_entry(
+/// Copies of the key and the value.
+pub fn owned_entry(
     entry: Option<(&Vec<u8>, &Vec<u8>)>,
 ) -> Result<Option<(Vec<u8>, Vec<u8>)>, AllocError>
     ensures { IfOk result (λ owned. option_map entry_view owned

@@ -1,5 +1,5 @@
-ghost use Rattle.std.specs.Prelude.{◌≡◌, reverse, IfOk};
-ghost use Rattle.std.specs.Option.{option_map};
+ghost use Rattle.std.specs.Prelude.{◌≡◌, ℕ, List, Option, reverse, IfOk};
+ghost use Rattle.std.specs.Option.{option_map, option_or};
 ghost use Rattle.kv_layers.specs.Changes.{change_in};
 ghost use Rattle.kv_layers.specs.Delta.{change_view};
 ghost use Rattle.kv_layers.specs.Merge.{chosen, shown_change, as_change};
@@ -28,8 +28,25 @@ pub(crate) fn next_change<'l>(
     first_change(change, lower, order)
 }
 
-/// The change that a scan meets first, and of two of one key the upper one.
-pub(crate) fn first_change<'l>(
+/// The change that a scan meets first, and of two of one key the upper one. So the first of two lists
+/// of changes, one above the other, is the first of the first ones of both.
+pub fn first_change<'l>(
+    upper: Option<(&'l Vec<u8>, &'l Option<Vec<u8>>)>,
+    lower: Option<(&'l Vec<u8>, &'l Option<Vec<u8>>)>,
+    order: Order,
+) -> Option<(&'l Vec<u8>, &'l Option<Vec<u8>>)>
+    ensures chosen { option_map shown_change result
+        ≡ chosen order (option_map shown_change upper.entry) (option_map shown_change lower.entry) }
+    ensures first { (above below : List ℕ → Option (Option (List ℕ))) (lo hi : Option (List ℕ)) →
+        IsNext above lo hi order (option_map shown_change upper.entry) →
+        IsNext below lo hi order (option_map shown_change lower.entry) →
+        IsNext (λ key. option_or (above key) (below key)) lo hi order
+        (option_map shown_change result) }
+{
+    chosen_change(upper, lower, order)
+}
+
+fn chosen_change<'l>(
     upper: Option<(&'l Vec<u8>, &'l Option<Vec<u8>>)>,
     lower: Option<(&'l Vec<u8>, &'l Option<Vec<u8>>)>,
     order: Order,

@@ -10,7 +10,7 @@ pub enum Order {
 
 impl Order {
     /// Whether a scan meets the first key before the second.
-    pub(crate) fn comes_before(self, first: &[u8], second: &[u8]) -> bool
+    pub fn comes_before(self, first: &[u8], second: &[u8]) -> bool
         ensures { result ≡ comes_before self first.now second.now }
     {
         match self {

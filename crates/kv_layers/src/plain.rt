@@ -1,8 +1,10 @@
-ghost use Rattle.std.specs.Prelude.{◌≡◌, OnOk, OnErr};
+ghost use Rattle.std.specs.Prelude.{◌≡◌, IfOk, OnOk, OnErr};
 ghost use Rattle.std.specs.FinMap.{empty, insert};
+ghost use Rattle.kv_layers.specs.Delta.{IsDelta, delta_view};
 
 use crate::base::Base;
 use crate::bounds::Bounds;
+use crate::delta::Delta;
 use crate::layer::{owned_entry, owned_value};
 use crate::order::Order;
 use crate::sorted::next_entry;
@@ -46,6 +48,18 @@ impl Plain {
     {
         self.entries.insert(key, value)?;
         Ok(())
+    }
+
+    /// The changes that lead from the empty map to this one. No key and no value is copied.
+    pub fn into_delta(self, alloc: Global) -> Result<Delta, AllocError>
+        ensures { IfOk result (λ delta. IsDelta empty (delta_view delta) self) }
+    {
+        let Plain { entries } = self;
+        let mut changes = Vec::with_capacity(alloc, entries.len())?;
+        for (key, value) in entries {
+            changes.push((key, Some(value)))?;
+        }
+        Ok(Delta { changes })
     }
 }
 

@@ -13,4 +13,4 @@ returns t c =
     let below = c.in_ok-newest.below.now in
     let e = reverse-last c.args.layers.now below newest c.in_ok-newest.ensures.cases.0 in
     subst (λ ls. IsNext (change_in ls) (lower c.args.bounds.now) (upper c.args.bounds.now) c.args.order (option_map shown_change c.first_change.result)) (sym e)
-    (IsNext-layers newest (reverse below) (lower c.args.bounds.now) (upper c.args.bounds.now) c.args.order c.next_entry-change.result (option_map shown_change c.next_change-lower.result) _ c.next_entry-change.ensures c.next_change-lower.ensures c.first_change.ensures)
+    (IsNext-layers newest (reverse below) (lower c.args.bounds.now) (upper c.args.bounds.now) c.args.order c.next_entry-change.result (option_map shown_change c.next_change-lower.result) _ c.next_entry-change.ensures c.next_change-lower.ensures c.first_change.ensures.chosen)
