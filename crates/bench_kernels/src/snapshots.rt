@@ -12,7 +12,12 @@ const MERGES: u32 = 10;
 const CHANGES: u32 = 100;
 
 /// The map with a hundred values changed, in one run more.
-fn grown(alloc: Global, snapshot: &Snapshot, layer: u32, count: u32) -> Result<Snapshot, AllocError> {
+fn grown(
+    alloc: Global,
+    snapshot: &Snapshot,
+    layer: u32,
+    count: u32,
+) -> Result<Snapshot, AllocError> {
     let mut layers = Layers::new(alloc, snapshot);
     change(alloc, &mut layers, layer, count)?;
     let delta = layers.into_delta();

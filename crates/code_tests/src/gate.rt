@@ -4,10 +4,10 @@ mod faults;
 mod rules;
 mod uses;
 
-use gatekeeper::{Decoding, GateStop, Modules, Served, check};
 use bodies::{BODIES, FRAME, UNREACHED};
 use contracts::{Change, OF_COMMON, OF_ECHO};
 use faults::SECTIONS;
+use gatekeeper::{Decoding, GateStop, Modules, Served, check};
 use rules::{EXPORTS, IMPORTS, SIZES};
 use std::alloc::{AllocError, Global};
 use std::process::Abort;

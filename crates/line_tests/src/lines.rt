@@ -1,9 +1,9 @@
+use chain_msgs::{
+    Answer, Attribute, Block, Event, FailKind, Failure, Genesis, SystemError, TxResult,
+};
 use line_protocol::{
     BadKind, Line, LineStop, Lines, ParseStop, QueryReply, QueryResult, Question, bad_text,
     block_text, check_text, genesis_text, parse, query_text,
-};
-use chain_msgs::{
-    Answer, Attribute, Block, Event, FailKind, Failure, Genesis, SystemError, TxResult,
 };
 use outside_io::{Failed, MemSource, Source, SureSource};
 use std::alloc::{AllocError, Global};

@@ -209,9 +209,23 @@ fn the_first_denom_that_falls_short_is_told_and_nothing_is_moved(
         alloc,
         layered(alloc, plain),
         &[
-            (Act::Send(&ONE, &OTHER, &[("ztok", "2"), ("utok", "11"), ("atok", "5")]), "utok 10 11"),
+            (
+                Act::Send(
+                    &ONE,
+                    &OTHER,
+                    &[("ztok", "2"), ("utok", "11"), ("atok", "5")],
+                ),
+                "utok 10 11",
+            ),
             (Act::Held(&ONE), "5atok,10utok,1ztok"),
-            (Act::Send(&ONE, &OTHER, &[("utok", "10"), ("atok", "4"), ("ztok", "1")]), "sent"),
+            (
+                Act::Send(
+                    &ONE,
+                    &OTHER,
+                    &[("utok", "10"), ("atok", "4"), ("ztok", "1")],
+                ),
+                "sent",
+            ),
             (Act::Held(&ONE), "1atok"),
             (Act::Held(&OTHER), "6atok,10utok,1ztok"),
         ],

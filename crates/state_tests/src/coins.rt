@@ -1,6 +1,4 @@
-use coin_amounts::{
-    Coins, CoinsFault, RawCoin, coins_text, is_denom, read_amount, read_coins,
-};
+use coin_amounts::{Coins, CoinsFault, RawCoin, coins_text, is_denom, read_amount, read_coins};
 use std::alloc::{AllocError, Global};
 use std::test::Fail;
 

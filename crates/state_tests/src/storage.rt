@@ -1,5 +1,5 @@
-use gas_store::{Scoped, StoreStop};
 use gas_meter::{Meter, Schedule};
+use gas_store::{Scoped, StoreStop};
 use kv_layers::{Layers, Order, Plain};
 use std::alloc::Global;
 use std::test::Fail;

@@ -1,0 +1,6 @@
+-- What holds whatever a call answers holds where it answers Ok.
+use Rattle.std.proofs.Common.{Result, Ok, Err, OnOk}
+
+pub on_ok : {A E : Type 0} {P : Type 0} (r : Result A E) → P → OnOk r P
+on_ok (Ok x) p = p
+on_ok (Err e) p = tt
