@@ -1,0 +1,13 @@
+//! A map of bytes as shared sorted runs of changes. To keep another map costs what was changed.
+#![tactic(auto)]
+
+mod laws;
+mod merge;
+mod run;
+mod runs;
+mod snapshot;
+#[cfg(test)]
+mod tests;
+
+pub use laws::each_has_one_map;
+pub use snapshot::Snapshot;
