@@ -6,8 +6,6 @@ mod merge;
 mod run;
 mod runs;
 mod snapshot;
-#[cfg(test)]
-mod tests;
 
 pub use laws::each_has_one_map;
 pub use snapshot::Snapshot;

@@ -14,4 +14,6 @@ mod layers;
 #[cfg(test)]
 mod records;
 #[cfg(test)]
+mod snapshots;
+#[cfg(test)]
 mod storage;

@@ -1,8 +1,8 @@
 ghost use Rattle.std.specs.Prelude.{◌≡◌};
 ghost use Rattle.kv_layers.specs.Layers.{depth};
 
-use crate::Snapshot;
 use kv_layers::{Base, Delta, Layers, Order, Plain};
+use state_runs::Snapshot;
 use std::alloc::{AllocError, Global};
 use std::collections::BTreeMap;
 use std::test::Fail;
@@ -20,20 +20,8 @@ fn lone(alloc: Global, key: u8, value: u8) -> Result<Snapshot, AllocError> {
     Snapshot::from_plain(alloc, plain)
 }
 
-/// A change as it is given, whatever the map has.
-fn lone_delta(alloc: Global, key: u8, value: Option<u8>) -> Result<Delta, AllocError> {
-    let key = bytes(alloc, key)?;
-    let value = match value {
-        Some(value) => Some(bytes(alloc, value)?),
-        None => None,
-    };
-    let mut changes = Vec::new(alloc);
-    changes.push((key, value))?;
-    Ok(Delta { changes })
-}
-
-fn change(
-    layers: &mut Layers<&Snapshot>,
+fn change<B: Base>(
+    layers: &mut Layers<B>,
     alloc: Global,
     key: u8,
     value: Option<u8>,
@@ -44,6 +32,17 @@ fn change(
         Some(value) => layers.set(alloc, &[key], &[value]),
         None => layers.remove(alloc, &[key]),
     }
+}
+
+/// This one change, which is made on a map of its own.
+fn lone_delta(alloc: Global, key: u8, value: Option<u8>) -> Result<Delta, AllocError> {
+    let mut plain = Plain::new(alloc);
+    if value.is_none() {
+        plain.insert(bytes(alloc, key)?, bytes(alloc, 0)?)?;
+    }
+    let mut layers = Layers::new(alloc, plain);
+    change(&mut layers, alloc, key, value)?;
+    Ok(layers.into_delta())
 }
 
 /// One more run, of two changes that are made in a layer.
