@@ -1,8 +1,7 @@
 #!/usr/bin/env python3
 """Runs the built programs on whole inputs, and compares what they write and their statuses with what is
 wanted: each kind of bad line, addresses in either case, limits, reads and writes that fail on the way, and
-blocks of sends beside a plain map of balances. Run it after rt ci, as tools/check_answers.py [FOLDER OF crates].
-It writes nothing where all is as it should be."""
+blocks of sends beside a plain map of balances. Run it after rt ci. It writes nothing where all is as it should be."""
 import base64
 import hashlib
 import json
@@ -15,9 +14,21 @@ import sys
 import tempfile
 
 TOP = os.path.dirname(os.path.dirname(os.path.abspath(__file__)))
-CRATES = sys.argv[1] if len(sys.argv) > 1 else os.path.join(TOP, "crates")
-NODE = os.path.join(CRATES, "wasmnode", "out", "wasmnode")
-SAMPLES = os.path.join(CRATES, "sample_codes", "out", "sample_codes")
+
+
+def built(crate, word):
+    """The program of a crate, which is built if it isn't there."""
+    folder = os.path.join(TOP, "crates", crate)
+    program = os.path.join(folder, "out", crate)
+    if not os.access(program, os.X_OK):
+        log = subprocess.run(["rt", "run", "--", word], cwd=folder, stdin=subprocess.DEVNULL, stdout=subprocess.PIPE, stderr=subprocess.STDOUT)
+        if not os.access(program, os.X_OK):
+            sys.exit(log.stdout.decode(errors="replace"))
+    return program
+
+
+NODE = built("wasmnode", "serial")
+SAMPLES = built("sample_codes", "echo")
 
 DONE, USAGE, BAD_LINE, READ_FAULT, WRITE_FAULT = 0, 2, 3, 5, 6
 
