@@ -7,7 +7,11 @@ mod floats;
 mod form;
 mod json;
 mod paths;
+#[cfg(test)]
+mod sample;
 mod stop;
+#[cfg(test)]
+mod tests;
 mod variants;
 
 pub use fields::{
