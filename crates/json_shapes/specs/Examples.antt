@@ -3,11 +3,10 @@ use Rattle.std.specs.Prelude.{◌≡◌, ℕ, List, [], ◌∷◌, Option, Some,
 use Rattle.std.specs.Fmt.{digits}
 use Rattle.std.specs.Str.{is_utf8, chars}
 use Rattle.serde_json.proofs.OnLiterals.{serde_json_on_literals}
-use Rattle.serde_json.specs.Data.{Data, null, number as number_data, unsigned, string, array, object, no_items, item, no_members, member}
+use Rattle.serde_json.specs.Data.{Data, null, number as number_data, unsigned, array, object, no_items, item, no_members, member}
 use Rattle.json_shapes.specs.Json.{json_of}
-use Rattle.json_shapes.specs.Sample.{Order, Coin, order_of, coin_of, act_of, burn}
-use Rattle.json_shapes.specs.Shapes.{Fault, Reading, field_step, place_step, text, number, list, nullable, field, optional, or_empty, variant, path_text}
-use Rattle.json_shapes.specs.declared.stop.Want.{Want}
+use Rattle.json_shapes.specs.Sample.{Order, order_of, coin_of, act_of, burn}
+use Rattle.json_shapes.specs.Shapes.{Reading, field_step, place_step, text, number, list, nullable, field, optional, variant, path_text}
 use Rattle.json_shapes.specs.declared.stop.Want.TheVariants.{Text, Number, Variant}
 
 abbrev one : List ℕ → Data → Data

@@ -1,5 +1,5 @@
 -- JSON texts: what one reads as, whether its numbers are whole, and an object's one field.
-use Rattle.std.specs.Prelude.{◌≡◌, ℕ, List, Option, Some, None, false, not, if◌then◌else◌}
+use Rattle.std.specs.Prelude.{◌≡◌, ℕ, List, Option, Some, None, false, if◌then◌else◌}
 use Rattle.std.specs.Str.{is_utf8}
 use Rattle.serde_json.specs.Data.{Data, null, boolean, number, string, array, object, no_members, member}
 use Rattle.serde_json.specs.Read.{read}

@@ -27,7 +27,8 @@ fn one_field(value: &Value) -> Option<(&str, &Value)>
     let Value::Object(members) = value else {
         return None;
     };
-    if members.len() != 1 {
+    let count = members.len();
+    if count != 1 {
         return None;
     }
     match members.first_key_value() {

@@ -1,17 +1,19 @@
-use Rattle.std.proofs.Common.{sym, ap, ◌∙◌}
+use Rattle.std.proofs.Common.{◌≡◌, length, sym, ap, ◌∙◌, arith}
 use Rattle.serde_json.proofs.Views.{view-Object}
 use Rattle.serde_json.specs.View.{view}
 use Rattle.json_shapes.specs.Json.{variant_of}
 use Rattle.json_shapes.proofs.Objects.{variant_none, variant_some}
 use Rattle.json_shapes.proofs.variants.one_field.Goals as goal
 
-pub returns-then-len-ne1 : goal.returns-then-len-ne1
-returns-then-len-ne1 c =
+pub returns-then-count-ne1 : goal.returns-then-count-ne1
+returns-then-count-ne1 c =
     let m = c.in-Object.members in
-    sym (ap (λ v. variant_of (view v)) c.in-Object.is ∙ ap variant_of (view-Object m) ∙ variant_none m.entries (λ one. c.if-len-ne1.true (c.len.ensures.len ∙ one)))
+    let size : c.len-count.result ≡ length m.entries = c.len-count.ensures.len in
+    sym (ap (λ v. variant_of (view v)) c.in-Object.is ∙ ap variant_of (view-Object m) ∙ variant_none m.entries (λ one. omega arith))
 
 pub returns-in-Some : goal.returns-in-Some
 returns-in-Some c =
     let m = c.in-Object.members in
+    let size : c.len-count.result ≡ length m.entries = c.len-count.ensures.len in
     sym (ap (λ v. variant_of (view v)) c.in-Object.is ∙ ap variant_of (view-Object m)
-    ∙ variant_some m.entries c.in-Some.name.now c.in-Some.inner.now _ (sym c.len.ensures.len ∙ c.if-len-ne1.false) c.in-Some.ensures.first c.as_str.ensures.value)
+    ∙ variant_some m.entries c.in-Some.name.now c.in-Some.inner.now _ (omega arith) c.in-Some.ensures.first c.as_str.ensures.value)
