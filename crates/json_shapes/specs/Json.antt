@@ -9,7 +9,8 @@ use Rattle.serde_json.specs.Written.{has_float}
 unfoldable pub json_of : List ℕ → Option Data
 json_of text = if is_utf8 text then read text else None
 
--- each number of what was kept of a text is an integer of 64 bits, and none is `-0`
+-- No number is a float. What is kept of a text has then only integers of 64 bits: one past them, one with a fraction or an
+-- exponent, and `-0`, are read as floats.
 abbrev pub IsWhole : Data → Type 0
 IsWhole d = has_float d ≡ false
 

@@ -1,6 +1,6 @@
 -- Forms of JSON values. Reading a value by a form gives what it says, or the first fault: the path of the first part
--- that is missing or isn't what belongs there, and what belongs there. Unknown fields are ignored, and of a repeated
--- field the last one counts.
+-- that is missing or isn't what belongs there, and what belongs there. Unknown fields are ignored, of a repeated field
+-- the last one counts, and what is no object has no fields.
 use Rattle.std.specs.Prelude.{ℕ, ◌+◌, List, [], ◌∷◌, ◌++◌, decimal, Option, Some, None, option_and_then, ok_or, unwrap_or, Result, Ok, Err}
 use Rattle.base64.specs.Engines.{standard}
 use Rattle.base64.specs.GeneralPurpose.{decoded_of}
@@ -43,7 +43,7 @@ abbrev pub within : {A : Type 0} → Step → Reading A → Reading A
 within step (Ok x) = Ok x
 within step (Err fault) = Err (behind step fault)
 
--- what was found, where it was to be
+-- what was found, or that this was wanted
 abbrev pub found : {A : Type 0} → Want → Option A → Reading A
 found want o = ok_or o (record { path = []; want = want })
 
@@ -65,7 +65,7 @@ number = record { want = Number; read = λ d. found Number (option_and_then as_u
 abbrev pub binary : Form (List ℕ)
 binary = record { want = Binary; read = λ d. found Binary (option_and_then (decoded_of standard) (as_str d)) }
 
--- a list, whatever its items are
+-- a list, whatever its items are: they are taken as they are
 abbrev pub items : Form Items
 items = record { want = ListWant; read = λ d. found ListWant (as_array d) }
 
@@ -114,7 +114,7 @@ abbrev pub step_text : Step → List ℕ
 step_text (field_step name) = name
 step_text (place_step place) = decimal place
 
--- a dot stands between, where something follows
+-- a dot stands between, where something follows: an empty name at the end of a path leaves none
 abbrev pub dotted : List ℕ → List ℕ → List ℕ
 dotted front [] = front
 dotted front (b ∷ rest) = front ++ 46 ∷ b ∷ rest
