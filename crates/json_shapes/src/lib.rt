@@ -1,0 +1,26 @@
+//! Typed reading and writing of JSON: a reader says exactly what a value says by a form, or the path of
+//! its first fault and what belongs there.
+#![tactic(auto)]
+
+mod fields;
+mod floats;
+mod form;
+mod json;
+mod paths;
+#[cfg(test)]
+mod sample;
+mod stop;
+#[cfg(test)]
+mod tests;
+mod variants;
+
+pub use fields::{
+    bytes_at, field, list_at, list_field, nullable_field, optional_field, optional_list, text_at,
+    u64_at,
+};
+pub use floats::has_float;
+pub use form::{Binary, Form};
+pub use json::{read_json, write_json};
+pub use paths::{stop_for, within, within_place};
+pub use stop::{JsonStop, ShapeStop, Want};
+pub use variants::variant;
