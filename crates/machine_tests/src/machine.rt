@@ -3,12 +3,12 @@ ghost use Rattle.wasm_machine.specs.Acts.{Act};
 ghost use Rattle.wasm_machine.specs.Start.{imported};
 ghost use Rattle.wasm_machine.specs.Machine.{plain_of, phase_of, StandsFor};
 
-use wasm_machine::{Machine, Phase, TrapKind, Turn, asks_name_imports};
 use gas_meter::{Meter, Schedule};
 use std::alloc::{AllocError, Global};
 use std::process::Abort;
 use std::sync::Arc;
 use std::test::Fail;
+use wasm_machine::{Machine, Phase, TrapKind, Turn, asks_name_imports};
 use wasm_types::{
     Code, Desc, Elem, FuncType, GlobalVar, Import, Init, Instr, Limits, Module, Seg, ValType, Value,
 };

@@ -4,9 +4,9 @@ mod operations64;
 mod relations;
 mod unary;
 
+use edges::{EDGES32, EDGES64};
 use int_ops::NumTrap::{DivideByZero, IntegerOverflow};
 use int_ops::{Num, NumTrap, binary, is_binary, is_unary};
-use edges::{EDGES32, EDGES64};
 use operations32::OPERATIONS32;
 use operations64::OPERATIONS64;
 use relations::{TESTS32, TESTS64};
