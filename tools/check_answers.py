@@ -68,8 +68,8 @@ def lines(*values):
     return b"".join((v if isinstance(v, str) else text(v)).encode() + b"\n" for v in values)
 
 
-def coins(*list):
-    return [{"amount": str(amount), "denom": denom} for amount, denom in list]
+def coins(*pairs):
+    return [{"amount": str(amount), "denom": denom} for amount, denom in pairs]
 
 
 def genesis(authority=None, balances=()):
@@ -77,8 +77,8 @@ def genesis(authority=None, balances=()):
                         "capabilities": [], "chain_id": "t-1", "prefix": "abcdef", "query_gas": 1000000, "time": "0"}}
 
 
-def tx(gas, sender, recipient, *list):
-    return {"gas": gas, "msgs": [{"bank": {"send": {"amount": coins(*list), "to_address": recipient}}}], "sender": sender}
+def tx(gas, sender, recipient, *sent_coins):
+    return {"gas": gas, "msgs": [{"bank": {"send": {"amount": coins(*sent_coins), "to_address": recipient}}}], "sender": sender}
 
 
 def block(time, *txs):
@@ -246,25 +246,25 @@ def blocks_of_sends_beside_a_plain_map():
     given, answers = [genesis(None, [(A, [(60, "utok"), (50, "atok")]), (B, [(40, "utok")])])], [OPENED]
     chance, digests = random.Random(1), Digests()
 
-    def result(gas, sender, recipient, list):
-        cost = 1000 + 100 * len(list)
+    def result(gas, sender, recipient, sent_coins):
+        cost = 1000 + 100 * len(sent_coins)
         if gas < cost:
             return not_sent(11, gas, "OutOfGas")
-        for amount, denom in list:
+        for amount, denom in sent_coins:
             have = amounts.get((sender, denom), 0)
             if have < amount:
                 return not_sent(5, cost, f"NotEnough {denom} {have} {amount}")
-        for amount, denom in list:
+        for amount, denom in sent_coins:
             amounts[sender, denom] -= amount
             amounts[recipient, denom] = amounts.get((recipient, denom), 0) + amount
-        return sent(cost, sender, recipient, ",".join(f"{amount}{denom}" for amount, denom in list))
+        return sent(cost, sender, recipient, ",".join(f"{amount}{denom}" for amount, denom in sent_coins))
 
     for height in range(1, 41):
         sends = []
         for _ in range(20):
-            list = [(chance.randrange(1, 20), denom) for denom in chance.choice([["atok"], ["utok"], ["atok", "utok"]])]
-            sends.append((1050 + 50 * chance.randrange(8), chance.choice([A, B, C]), chance.choice([A, B, C]), list))
-        given.append(block(height, *(tx(gas, sender, recipient, *list) for gas, sender, recipient, list in sends)))
+            sent_coins = [(chance.randrange(1, 20), denom) for denom in chance.choice([["atok"], ["utok"], ["atok", "utok"]])]
+            sends.append((1050 + 50 * chance.randrange(8), chance.choice([A, B, C]), chance.choice([A, B, C]), sent_coins))
+        given.append(block(height, *(tx(gas, sender, recipient, *sent_coins) for gas, sender, recipient, sent_coins in sends)))
         answers.append(digests.answer(*(result(*send) for send in sends)))
         for who in [A, B, C]:
             for denom in ["atok", "utok"]:
