@@ -3,8 +3,7 @@ ghost use Rattle.kv_layers.specs.Rising.{change_view, KeysRise, KeysRise-prop};
 
 use crate::layer::Change;
 
-/// The least changes that lead from one map to another: keys rise, and a key without a value is
-/// removed.
+/// Changes of a map, whose keys rise. A key without a value is removed.
 #[derive(Debug, Drop)]
 pub struct Delta {
     pub changes: Vec<Change>,
