@@ -77,7 +77,7 @@ impl Bounds {
     pub fn holds(&self, key: &[u8]) -> bool
         ensures { result ≡ is_within (lower self.now) (upper self.now) key.now }
     {
-        is_from(&self.lo, key) && is_below(&self.hi, key)
+        is_from(self.lo(), key) && is_below(self.hi(), key)
     }
 
     /// Leaves only the keys that come after the one given, which is to lie within the bounds.
@@ -101,8 +101,8 @@ impl Bounds {
     }
 }
 
-fn is_from(lo: &Option<Vec<u8>>, key: &[u8]) -> bool
-    ensures { result ≡ is_from (value_view lo.now) key.now }
+fn is_from(lo: Option<&[u8]>, key: &[u8]) -> bool
+    ensures { result ≡ is_from (option_copied lo.entry) key.now }
 {
     match lo {
         Some(lo) => !Order::Ascending.comes_before(key, lo),
@@ -110,8 +110,9 @@ fn is_from(lo: &Option<Vec<u8>>, key: &[u8]) -> bool
     }
 }
 
-fn is_below(hi: &Option<Vec<u8>>, key: &[u8]) -> bool
-    ensures { result ≡ is_below (value_view hi.now) key.now }
+/// Whether the key is below an upper bound, if there is one.
+pub fn is_below(hi: Option<&[u8]>, key: &[u8]) -> bool
+    ensures { result ≡ is_below (option_copied hi.entry) key.now }
 {
     match hi {
         Some(hi) => Order::Ascending.comes_before(key, hi),

@@ -12,7 +12,7 @@ mod plain;
 mod sorted;
 
 pub use base::Base;
-pub use bounds::Bounds;
+pub use bounds::{Bounds, is_below};
 pub use delta::Delta;
 pub use layer::{Change, owned_entry, owned_value};
 pub use layers::Layers;
