@@ -32,7 +32,7 @@ viewed false w o = refl
 pub change_at-changed : (old new : Layer) (key : List ℕ) (change : Option (Option (Vec ℕ))) → Updated old new key change → (q : List ℕ) → change_at new q ≡ cond (is_eq (bytes_cmp q key)) (option_map value_view change) (change_at old q)
 change_at-changed old new key change h q = ap (option_map value_view) (value_at-changed old new key change h q) ∙ viewed (is_eq (bytes_cmp q key)) change (value_at old q)
 
-turn : (b : Bool) (w : Option (List ℕ)) (c : Option (Option (List ℕ))) (v : Option (List ℕ)) → cond b w (after_change c v) ≡ after_change (cond b (Some w) c) v
+pub turn : (b : Bool) (w : Option (List ℕ)) (c : Option (Option (List ℕ))) (v : Option (List ℕ)) → cond b w (after_change c v) ≡ after_change (cond b (Some w) c) v
 turn true w c v = refl
 turn false w c v = refl
 

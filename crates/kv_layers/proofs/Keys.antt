@@ -1,5 +1,5 @@
 -- The order of keys, and bounds.
-use Rattle.std.proofs.Common.{◌≡◌, ℕ, ◌⊎◌, inl, inr, Bool, true, false, not, ◌&&◌, List, [], ◌∷◌, ◌++◌, Option, Some, None, refl, sym, ◌∙◌, ap, true≢false, arith}
+use Rattle.std.proofs.Common.{◌≡◌, ℕ, ◌⊎◌, inl, inr, Bool, true, false, not, ◌&&◌, List, [], ◌∷◌, ◌++◌, Option, Some, None, refl, sym, ◌∙◌, ap, subst, true≢false, arith}
 use Rattle.std.specs.declared.cmp.Ordering.{Ordering}
 use Rattle.std.specs.declared.cmp.Ordering.TheVariants.{Less, Equal, Greater}
 use Rattle.std.specs.Ordering.{is_lt, is_le, ordering_reverse, nat_cmp, ordering_then}
@@ -10,7 +10,7 @@ use Rattle.kv_layers.specs.declared.order.Order.{Order}
 use Rattle.kv_layers.specs.declared.order.Order.TheVariants.{Ascending, Descending}
 use Rattle.kv_layers.specs.Bytes.{bytes_cmp}
 use Rattle.kv_layers.specs.Next.{comes_before, is_from, is_below, is_within}
-use Rattle.kv_layers.specs.Sorted.{narrowed_lower, narrowed_upper, AreCrossed}
+use Rattle.kv_layers.specs.Sorted.{narrowed_lower, narrowed_upper, AreCrossed, AreInside}
 
 pub less_of : (r : Ordering) → is_lt r ≡ true → r ≡ Less
 less_of Less e = refl
@@ -92,7 +92,8 @@ le_lt a b c le lt = elim (bytes_cmp a b) as (λ r. bytes_cmp a b ≡ r → is_le
 is_le_of : (r : Ordering) → r ≡ Less → is_le r ≡ true
 is_le_of r e = rw e refl
 
-from_later : (lo : Option (List ℕ)) (a b : List ℕ) → is_from lo a ≡ true → bytes_cmp a b ≡ Less → is_from lo b ≡ true
+-- a greater key is at a lower bound or above it too
+pub from_later : (lo : Option (List ℕ)) (a b : List ℕ) → is_from lo a ≡ true → bytes_cmp a b ≡ Less → is_from lo b ≡ true
 from_later None a b h lt = refl
 from_later (Some l) a b h lt = is_le_of _ (le_lt l a b h lt)
 
@@ -108,6 +109,11 @@ within_narrowed Ascending lo hi key q w h =
 within_narrowed Descending lo hi key q w h =
     let lt = second_of (is_from lo q) _ h in
     (both _ _ (first_of _ _ h) (below_earlier hi q key (second_of (is_from lo key) _ w) (less_of _ lt)), lt)
+
+pub AreInside-narrowed : (order : Order) (lo hi low high : Option (List ℕ)) (key : List ℕ) → is_within lo hi key ≡ true → low ≡ narrowed_lower order lo key → high ≡ narrowed_upper order hi key → AreInside low high lo hi
+AreInside-narrowed order lo hi low high key within e f q w =
+    (within_narrowed order lo hi key q within
+    (subst (λ h. is_within (narrowed_lower order lo key) h q ≡ true) f (subst (λ l. is_within l high q ≡ true) e w))).0
 
 pub narrowed_within : (order : Order) (lo hi : Option (List ℕ)) (key q : List ℕ) → is_within lo hi q ≡ true → comes_before order key q ≡ true → is_within (narrowed_lower order lo key) (narrowed_upper order hi key) q ≡ true
 narrowed_within Ascending lo hi key q w h = both _ _ (after_le key q ∙ h) (second_of (is_from lo q) _ w)

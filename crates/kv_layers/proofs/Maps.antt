@@ -10,11 +10,11 @@ use Rattle.std.specs.FinMap.{get, insert, find, get-from_entries, get-insert, sa
 use Rattle.std.specs.BTreeMap.{BTreeMap, UpdatesBy}
 use Rattle.std.specs.Map.{lookup, IsKeyTest, AreApart, KeepsOthers}
 use Rattle.kv_layers.specs.Bytes.{Bytes, bytes_cmp}
-use Rattle.kv_layers.specs.Next.{IsNext}
+use Rattle.kv_layers.specs.Next.{is_within, IsNext}
 use Rattle.kv_layers.specs.declared.order.Order.{Order}
 use Rattle.kv_layers.specs.Plain.{bytes_view, entry_view}
 use Rattle.kv_layers.specs.PlainMap.{map_of}
-use Rattle.kv_layers.specs.Sorted.{value_at, shown_entry}
+use Rattle.kv_layers.specs.Sorted.{value_at, shown_entry, AreInside}
 use Rattle.kv_layers.proofs.Keys.{same_of}
 use Rattle.kv_layers.proofs.Ranges.{vec_cmp, equal_of}
 
@@ -66,3 +66,11 @@ IsNext-view view f g same lo hi order (Some e) h = (h.0, same e.0 ∙ ap (option
 pub shown-views : (r : Option (Bor (Vec ℕ) × Bor (Vec ℕ))) → option_map {U = List ℕ × List ℕ} (λ (e : List ℕ × Vec ℕ). (e.0, bytes_view e.1)) (option_map shown_entry r) ≡ option_map {U = List ℕ × List ℕ} (λ (e : Bor (Vec ℕ) × Bor (Vec ℕ)). (e.0.now.items, e.1.now.items)) r
 shown-views None = refl
 shown-views (Some e) = refl
+
+-- where there is no entry, there is none within bounds inside
+pub IsNext-inside_none : {X : Type 0} (f : List ℕ → Option X) (low high lo hi : Option (List ℕ)) (order : Order) → AreInside low high lo hi → IsNext f lo hi order None → IsNext f low high order None
+IsNext-inside_none f low high lo hi order inside h = λ q w. h q (inside q w)
+
+-- the first entry is the first one within bounds inside, if it lies there
+pub IsNext-inside : {X : Type 0} (f : List ℕ → Option X) (low high lo hi : Option (List ℕ)) (order : Order) (e : List ℕ × X) → AreInside low high lo hi → is_within low high e.0 ≡ true → IsNext f lo hi order (Some e) → IsNext f low high order (Some e)
+IsNext-inside f low high lo hi order e inside within h = (within, h.1, λ q w before. h.2 q (inside q w) before)

@@ -49,7 +49,7 @@ after-joined None None = refl
 after-joined None (Some v) = refl
 after-joined (Some w) v = refl
 
-after-after : (c d : Option (Option (List ℕ))) (v : Option (List ℕ)) → after_change c (after_change d v) ≡ after_change (option_or c d) v
+pub after-after : (c d : Option (Option (List ℕ))) (v : Option (List ℕ)) → after_change c (after_change d v) ≡ after_change (option_or c d) v
 after-after None d v = refl
 after-after (Some w) d v = refl
 
@@ -98,6 +98,11 @@ module _ (now : List ℕ → Option (List ℕ)) (change : List ℕ → Option (O
   IsNext-value lo hi order c r key value hc hr e =
       let h : IsNext all lo hi order (Some (key, Some value)) = subst (IsNext all lo hi order) (sym e) (IsNext-all lo hi order c r hc hr) in
       (h.0, now-all key ∙ ap joined h.1, λ q w before. now-all q ∙ ap joined (h.2 q w before))
+
+  -- no change comes before what comes first below
+  pub IsNext-base : (lo hi : Option (List ℕ)) (order : Order) (c : Option (List ℕ × Option (List ℕ))) (r : Option (List ℕ × List ℕ)) → IsNext change lo hi order c → IsNext under lo hi order r → chosen order c (option_map as_change r) ≡ option_map as_change r → IsNext now lo hi order r
+  IsNext-base lo hi order c None hc hr e = IsNext-none lo hi order c None hc hr (sym e)
+  IsNext-base lo hi order c (Some entry) hc hr e = IsNext-value lo hi order c (Some entry) entry.0 entry.1 hc hr (sym e)
 
   -- a removed key: the next entry is the next one after it
   pub IsNext-removed : (lo hi : Option (List ℕ)) (order : Order) (c : Option (List ℕ × Option (List ℕ))) (r : Option (List ℕ × List ℕ)) (key : List ℕ) → IsNext change lo hi order c → IsNext under lo hi order r → Some (key, None) ≡ chosen order c (option_map as_change r) → (found : Option (List ℕ × List ℕ)) → IsNext now (narrowed_lower order lo key) (narrowed_upper order hi key) order found → IsNext now lo hi order found

@@ -1,5 +1,5 @@
 -- A sorted map whose keys are vectors of bytes, read by bytes.
-use Rattle.std.specs.Prelude.{ℕ, ◌≡◌, List, [], ◌∷◌, ◌++◌, Option, Some, None}
+use Rattle.std.specs.Prelude.{ℕ, ◌≡◌, true, List, [], ◌∷◌, ◌++◌, Option, Some, None}
 use denote.Ref.{Bor}
 use Rattle.std.specs.Ordering.{nat_cmp}
 use Rattle.std.specs.declared.cmp.Ordering.TheVariants.{Less}
@@ -12,6 +12,7 @@ use Rattle.kv_layers.specs.declared.bounds.Bounds.{Bounds}
 use Rattle.kv_layers.specs.declared.order.Order.{Order}
 use Rattle.kv_layers.specs.declared.order.Order.TheVariants.{Ascending, Descending}
 use Rattle.kv_layers.specs.Bytes.{bytes_cmp}
+use Rattle.kv_layers.specs.Next.{is_within}
 use Rattle.kv_layers.specs.Plain.{value_view}
 
 -- what the map has at the key
@@ -42,6 +43,10 @@ narrowed_lower Descending lo key = lo
 abbrev pub narrowed_upper : Order → Option (List ℕ) → List ℕ → Option (List ℕ)
 narrowed_upper Ascending hi key = hi
 narrowed_upper Descending hi key = Some key
+
+-- each key within the first two bounds lies within the others
+abbrev pub AreInside : Option (List ℕ) → Option (List ℕ) → Option (List ℕ) → Option (List ℕ) → Type 0
+AreInside low high lo hi = (key : List ℕ) → is_within low high key ≡ true → is_within lo hi key ≡ true
 
 -- the bounds as a range has them
 abbrev pub start_of : Option (Vec ℕ) → Bound (Vec ℕ)

@@ -1,20 +1,20 @@
-ghost use Rattle.std.specs.Prelude.{◌≡◌, ◌+◌, ◌<◌, ◌≤◌, ◌∷◌, reverse, length, vec_len, vec_capacity, OnOk, OnErr};
+ghost use Rattle.std.specs.Prelude.{◌≡◌, ◌+◌, ◌<◌, ◌≤◌, ◌∷◌, ℕ, List, Option, reverse, length, vec_len, vec_capacity, IfOk, OnOk, OnErr};
 ghost use Rattle.std.specs.Option.{option_map, option_copied};
-ghost use Rattle.std.specs.FinMap.{insert, remove};
+ghost use Rattle.std.specs.FinMap.{get, insert, remove};
 ghost use Rattle.kv_layers.specs.Bytes.{Bytes};
 ghost use Rattle.kv_layers.specs.Changes.{change_in, with_change};
 ghost use Rattle.kv_layers.specs.Lowest.{lowest_len};
 ghost use Rattle.kv_layers.specs.Maps.{Maps, new_maps, changed, pushed, kept, dropped};
 ghost use Rattle.kv_layers.specs.Merge.{shown_change};
 ghost use Rattle.kv_layers.specs.Next.{IsNext};
-ghost use Rattle.kv_layers.specs.Plain.{value_view};
-ghost use Rattle.kv_layers.specs.Sorted.{lower, upper};
+ghost use Rattle.kv_layers.specs.Plain.{value_view, entry_view};
+ghost use Rattle.kv_layers.specs.Sorted.{lower, upper, AreInside};
 
 use crate::base::Base;
 use crate::bounds::Bounds;
 use crate::delta::Delta;
-use crate::layer::{Change, Layer, are_same, newest_change, owned_value};
-use crate::merge::{first_change, first_of, next_change};
+use crate::layer::{Change, Layer, are_same, newest_change, owned_entry, owned_value};
+use crate::merge::{first_change, next_change, unless_later};
 use crate::order::Order;
 use crate::sorted::next_entry;
 use std::alloc::{AllocError, Global};
@@ -160,6 +160,32 @@ impl<B: Base> Layers<B> {
         first_change(change, lower, order)
     }
 
+    /// The first entry of the base, where the earlier one was it within wider bounds. The base is asked
+    /// only if that one lies outside now.
+    fn next_under(
+        &self,
+        alloc: Global,
+        earlier: Option<(Vec<u8>, Vec<u8>)>,
+        bounds: &Bounds,
+        order: Order,
+    ) -> Result<Option<(Vec<u8>, Vec<u8>)>, AllocError>
+        ensures { IfOk result (λ under. (map : Bytes) (lo hi : Option (List ℕ)) →
+            B.stands_for self.now.base map →
+            AreInside (lower bounds.now) (upper bounds.now) lo hi →
+            IsNext (get map) lo hi order (option_map entry_view earlier) →
+            IsNext (get map) (lower bounds.now) (upper bounds.now) order
+            (option_map entry_view under)) }
+    {
+        let Some((key, value)) = earlier else {
+            return Ok(None);
+        };
+        if bounds.holds(&key) {
+            Ok(Some((key, value)))
+        } else {
+            self.base.next_in(alloc, bounds.lo(), bounds.hi(), order)
+        }
+    }
+
     fn write(
         &mut self,
         alloc: Global,
@@ -215,7 +241,7 @@ impl<B: Base> Base for Layers<B> {
         }
     }
 
-    /// A removed key costs another look at each layer and at the base.
+    /// A removed key costs another look at each layer, and at the base only where the base has the key.
     fn next_in(
         &self,
         alloc: Global,
@@ -224,15 +250,18 @@ impl<B: Base> Base for Layers<B> {
         order: Order,
     ) -> Result<Option<(Vec<u8>, Vec<u8>)>, AllocError> {
         let mut bounds = Bounds::new(alloc, lo, hi)?;
+        let mut under = self.base.next_in(alloc, lo, hi, order)?;
         'scan: loop {
-            let under = self.base.next_in(alloc, bounds.lo(), bounds.hi(), order)?;
-            let Some((key, value)) = first_of(self.next_change(&bounds, order), under, order)?
+            let Some((key, value)) = unless_later(self.next_change(&bounds, order), &under, order)
             else {
-                return Ok(None);
+                return Ok(under);
             };
             match value {
-                Some(value) => return Ok(Some((key, value))),
-                None => bounds.narrow_past(key, order)?,
+                Some(value) => return owned_entry(Some((key, value))),
+                None => {
+                    bounds.narrow_past(Vec::from_slice(alloc, key)?, order)?;
+                    under = self.next_under(alloc, under, &bounds, order)?;
+                }
             }
         }
     }

@@ -1,17 +1,15 @@
-ghost use Rattle.std.specs.Prelude.{◌≡◌, ℕ, List, Option, reverse, IfOk};
+ghost use Rattle.std.specs.Prelude.{◌≡◌, ℕ, List, Option, reverse};
 ghost use Rattle.std.specs.Option.{option_map, option_or};
 ghost use Rattle.kv_layers.specs.Changes.{change_in};
-ghost use Rattle.kv_layers.specs.Delta.{change_view};
 ghost use Rattle.kv_layers.specs.Merge.{chosen, shown_change, as_change};
 ghost use Rattle.kv_layers.specs.Next.{IsNext};
-ghost use Rattle.kv_layers.specs.Plain.{entry_view, value_view};
+ghost use Rattle.kv_layers.specs.Plain.{entry_view};
 ghost use Rattle.kv_layers.specs.Sorted.{lower, upper};
 
 use crate::bounds::Bounds;
-use crate::layer::{Change, Layer};
+use crate::layer::Layer;
 use crate::order::Order;
 use crate::sorted::next_entry;
-use std::alloc::AllocError;
 
 /// The first change within the bounds, in layers that are listed oldest first.
 pub(crate) fn next_change<'l>(
@@ -67,42 +65,24 @@ fn chosen_change<'l>(
     }
 }
 
-/// The change or the entry below all changes that a scan meets first, as a change.
-pub(crate) fn first_of(
-    change: Option<(&Vec<u8>, &Option<Vec<u8>>)>,
-    under: Option<(Vec<u8>, Vec<u8>)>,
+/// The change, unless a scan meets the entry below all changes before it.
+pub(crate) fn unless_later<'l>(
+    change: Option<(&'l Vec<u8>, &'l Option<Vec<u8>>)>,
+    under: &Option<(Vec<u8>, Vec<u8>)>,
     order: Order,
-) -> Result<Option<Change>, AllocError>
-    ensures { IfOk result (λ first. option_map change_view first ≡ chosen order
-        (option_map shown_change change.entry) (option_map as_change (option_map entry_view under))) }
+) -> Option<(&'l Vec<u8>, &'l Option<Vec<u8>>)>
+    ensures { chosen order (option_map shown_change change.entry)
+        (option_map as_change (option_map entry_view under.now))
+        ≡ option_or (option_map shown_change result)
+        (option_map as_change (option_map entry_view under.now)) }
 {
-    let Some((key, value)) = change else {
-        return Ok(as_change(under));
+    let (key, value) = change?;
+    let Some(entry) = under else {
+        return Some((key, value));
     };
-    let Some((under_key, under_value)) = under else {
-        return owned_change(key, value);
-    };
-    if order.comes_before(&under_key, key) {
-        Ok(Some((under_key, Some(under_value))))
+    if order.comes_before(&entry.0, key) {
+        None
     } else {
-        owned_change(key, value)
+        Some((key, value))
     }
-}
-
-fn as_change(entry: Option<(Vec<u8>, Vec<u8>)>) -> Option<Change>
-    ensures { option_map change_view result ≡ option_map as_change (option_map entry_view entry) }
-{
-    match entry {
-        Some((key, value)) => Some((key, Some(value))),
-        None => None,
-    }
-}
-
-fn owned_change(key: &Vec<u8>, value: &Option<Vec<u8>>) -> Result<Option<Change>, AllocError>
-    ensures { IfOk result (λ owned. option_map change_view owned
-        ≡ Some (key.now.items, value_view value.now)) }
-{
-    let key = key.clone()?;
-    let value = value.clone()?;
-    Ok(Some((key, value)))
 }
