@@ -38,6 +38,10 @@ IsNext-chosen {X} c b lo hi order (Some u) (Some l) hu hl =
     earlier order q k j before (inl h) = comes_before-trans order q k j before h
     earlier order q k j before (inr e) = subst (λ x. comes_before order q x ≡ true) e before
 
+-- the same, of what equals the first of the two
+pub IsNext-first : {X : Type 0} (c b : List ℕ → Option X) (lo hi : Option (List ℕ)) (order : Order) (u l r : Option (List ℕ × X)) → IsNext c lo hi order u → IsNext b lo hi order l → r ≡ chosen order u l → IsNext (λ q. option_or (c q) (b q)) lo hi order r
+IsNext-first c b lo hi order u l r hu hl e = subst (IsNext (λ q. option_or (c q) (b q)) lo hi order) (sym e) (IsNext-chosen c b lo hi order u l hu hl)
+
 joined : Option (Option (List ℕ)) → Option (List ℕ)
 joined None = None
 joined (Some value) = value

@@ -41,17 +41,6 @@ pub fn first_change<'l>(
         IsNext (λ key. option_or (above key) (below key)) lo hi order
         (option_map shown_change result) }
 {
-    chosen_change(upper, lower, order)
-}
-
-fn chosen_change<'l>(
-    upper: Option<(&'l Vec<u8>, &'l Option<Vec<u8>>)>,
-    lower: Option<(&'l Vec<u8>, &'l Option<Vec<u8>>)>,
-    order: Order,
-) -> Option<(&'l Vec<u8>, &'l Option<Vec<u8>>)>
-    ensures { option_map shown_change result
-        ≡ chosen order (option_map shown_change upper.entry) (option_map shown_change lower.entry) }
-{
     let Some((key, change)) = upper else {
         return lower;
     };
