@@ -1,10 +1,11 @@
 -- What is copied of an older run, step by step.
-use Rattle.std.proofs.Common.{◌≡◌, ℕ, true, false, cond, List, [], ◌∷◌, ◌++◌, map, Option, Some, None, refl, sym, ◌∙◌, ap, append_assoc, length, arith}
+use Rattle.std.proofs.Common.{◌≡◌, ℕ, true, cond, List, [], ◌∷◌, ◌++◌, map, Option, Some, None, refl, sym, ◌∙◌, ap, append_assoc, length, arith}
 use Rattle.std.specs.Global.{Vec}
 use Rattle.std.proofs.lemmas.List.{map-append}
 use Rattle.kv_layers.specs.Next.{is_below}
 use Rattle.kv_layers.specs.Rising.{change_view}
-use Rattle.state_runs.specs.Places.{below, from, past, laid_over}
+use Rattle.state_runs.specs.Places.{below, from, past}
+use Rattle.state_runs.proofs.Laid.{laid_over}
 use Rattle.state_runs.proofs.Places.{Listed}
 
 -- the first change is below the bound, and was copied
@@ -22,16 +23,6 @@ pub from-step : (end : Option (List ℕ)) (change : Vec ℕ × Option (Vec ℕ))
 from-step end change rest later is test =
     ap (λ b. cond b (from end (map change_view later)) (map change_view (change ∷ later))) (sym test)
     ∙ ap (λ xs. from end (map change_view xs)) (sym is)
-
--- the first change is not below it
-pub below-stop : (end : Option (List ℕ)) (change : Vec ℕ × Option (Vec ℕ)) (rest later : Listed) → rest ≡ change ∷ later → is_below end change.0.items ≡ false → below end (map change_view rest) ≡ []
-below-stop end change rest later is test =
-    ap (λ xs. below end (map change_view xs)) is ∙ ap (λ b. cond b (change_view change ∷ below end (map change_view later)) []) test
-
-pub from-stop : (end : Option (List ℕ)) (change : Vec ℕ × Option (Vec ℕ)) (rest later : Listed) → rest ≡ change ∷ later → is_below end change.0.items ≡ false → from end (map change_view rest) ≡ map change_view rest
-from-stop end change rest later is test =
-    ap (λ xs. from end (map change_view xs)) is ∙ ap (λ b. cond b (from end (map change_view later)) (map change_view (change ∷ later))) test
-    ∙ ap (map change_view) (sym is)
 
 pub none-left : (changes : Listed) → length changes ≡ 0 → changes ≡ []
 none-left [] e = refl

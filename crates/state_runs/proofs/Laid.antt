@@ -6,10 +6,17 @@ use Rattle.std.specs.Ordering.{is_eq, is_lt}
 use Rattle.kv_layers.specs.Bytes.{bytes_cmp}
 use Rattle.kv_layers.specs.Next.{is_below}
 use Rattle.kv_layers.specs.Rising.{KeysRise}
+use Rattle.kv_layers.specs.declared.order.Order.TheVariants.{Ascending}
+use Rattle.kv_layers.proofs.Keys.{less_of, comes_before-self}
 use Rattle.state_runs.specs.Runs.{Run}
-use Rattle.state_runs.specs.Places.{below, from, past, laid_over}
-use Rattle.state_runs.proofs.Keys.{less_of, same_key, is_itself, less_trans, not_same-less, not_same-greater, key_cases, not_less-cases, not_less-itself, not_less-greater}
+use Rattle.state_runs.specs.Places.{below, from, past}
+use Rattle.state_runs.proofs.Keys.{same_key, is_itself, less_trans, not_same-less, not_same-greater, key_cases, not_less-cases, not_less-greater}
 use Rattle.state_runs.proofs.Lists.{found, Above, rising_first, rising_rest, rising_of, above_less, above-append, found-other, found-above, found-append, or-none}
+
+-- the changes of both, and at one key the newer one
+abbrev pub laid_over : Run → Run → Run
+laid_over [] older = below None older
+laid_over (change ∷ newer) older = below (Some change.0) older ++ change ∷ laid_over newer (past change.0 (from (Some change.0) older))
 
 above-below : (k : List ℕ) (end : Option (List ℕ)) (cs : Run) → Above k cs → Above k (below end cs)
 above-below k end [] h = tt
@@ -121,7 +128,7 @@ found-step q c newer older new old = elim (key_cases q c.0) [
       rw (other, no_newer, no_rest) (or-none (found q (below (Some c.0) older)) ∙ found-below q c.0 older old lt)
   | inr (inl same) ↦
       let is : is_eq (bytes_cmp q c.0) ≡ true = subst (λ x. is_eq (bytes_cmp q x) ≡ true) same (is_itself q) in
-      let none = found-below_none q c.0 older (subst (λ x. is_lt (bytes_cmp q x) ≡ false) same (not_less-itself q)) in
+      let none = found-below_none q c.0 older (subst (λ x. is_lt (bytes_cmp q x) ≡ false) same (comes_before-self Ascending q)) in
       rw (is, none) refl
   | inr (inr lt) ↦
       let other = not_same-greater q c.0 lt in

@@ -1,27 +1,17 @@
 -- The map of runs: what it has at a key, with one more run, and in one run.
-use Rattle.std.proofs.Common.{◌≡◌, ℕ, Bool, true, false, cond, List, [], ◌∷◌, Option, Some, None, refl, sym, ◌∙◌, ap}
-use Rattle.std.specs.Option.{option_or}
+use Rattle.std.proofs.Common.{◌≡◌, ℕ, cond, List, [], ◌∷◌, Option, Some, None, refl, sym, ◌∙◌, ap}
 use Rattle.std.specs.Ordering.{is_eq, nat_cmp}
-use Rattle.std.specs.Cmp.Lexicographic.{slice_cmp, nat_list_cmp_total}
-use Rattle.std.specs.FinMap.{get, empty, get-insert, get-remove, get-empty, same_map, slice_cmp-IsAntisymmetric, nat_cmp-IsAntisymmetric}
+use Rattle.std.specs.Cmp.Lexicographic.{slice_cmp}
+use Rattle.std.specs.FinMap.{get, empty, get-empty}
 use Rattle.kv_layers.specs.Bytes.{Bytes, bytes_cmp}
-use Rattle.kv_layers.specs.Changes.{after_change, with_change, LeadsTo}
+use Rattle.kv_layers.specs.Changes.{after_change, LeadsTo}
 use Rattle.kv_layers.specs.Delta.{IsDelta}
 use Rattle.kv_layers.specs.Rising.{KeysRise}
+use Rattle.kv_layers.proofs.Changes.{get-with_change, turn}
+use Rattle.kv_layers.proofs.Maps.{same_bytes}
+use Rattle.kv_layers.proofs.Merging.{after-after}
 use Rattle.state_runs.specs.Runs.{Run, entry_in, value_in, IsMapOf, with_changes, map_of, with_run, IsWhole}
 use Rattle.state_runs.proofs.Lists.{found, kept, values_of, rising-values, found-values}
-
--- two maps that answer alike are the same
-same_bytes : (m n : Bytes) → ((q : List ℕ) → get m q ≡ get n q) → m ≡ n
-same_bytes m n h = same_map nat_list_cmp_total (slice_cmp-IsAntisymmetric nat_cmp-IsAntisymmetric) m n h
-
-get-with_change : (map : Bytes) (key : List ℕ) (value : Option (List ℕ)) (q : List ℕ) → get (with_change map key value) q ≡ cond (is_eq (bytes_cmp q key)) value (get map q)
-get-with_change map key None q = get-remove nat_list_cmp_total map key q
-get-with_change map key (Some value) q = get-insert nat_list_cmp_total map key value q
-
-turn : (b : Bool) (w : Option (List ℕ)) (c : Option (Option (List ℕ))) (v : Option (List ℕ)) → cond b w (after_change c v) ≡ after_change (cond b (Some w) c) v
-turn true w c v = refl
-turn false w c v = refl
 
 get-with_changes : (map : Bytes) (changes : Run) (q : List ℕ) → get (with_changes map changes) q ≡ after_change (found q changes) (get map q)
 get-with_changes map [] q = refl
@@ -29,10 +19,6 @@ get-with_changes map (c ∷ changes) q =
     get-with_change (with_changes map changes) c.0 c.1 q
     ∙ ap (cond (is_eq (bytes_cmp q c.0)) c.1) (get-with_changes map changes q)
     ∙ turn (is_eq (bytes_cmp q c.0)) c.1 (found q changes) (get map q)
-
-after-after : (c d : Option (Option (List ℕ))) (v : Option (List ℕ)) → after_change c (after_change d v) ≡ after_change (option_or c d) v
-after-after None d v = refl
-after-after (Some w) d v = refl
 
 pub get-map_of : (runs : List Run) (q : List ℕ) → get (map_of runs) q ≡ value_in runs q
 get-map_of [] q = get-empty (slice_cmp nat_cmp) q

@@ -6,8 +6,9 @@ use Rattle.kv_layers.specs.declared.order.Order.{Order}
 use Rattle.kv_layers.specs.Bytes.{bytes_cmp}
 use Rattle.kv_layers.specs.Changes.{after_change}
 use Rattle.kv_layers.specs.Next.{comes_before, is_within, IsNext}
+use Rattle.kv_layers.proofs.Keys.{comes_before-cases, comes_before-self, first_of, both}
 use Rattle.state_runs.specs.Runs.{Run, entry_in}
-use Rattle.state_runs.proofs.Keys.{same_key, comes_before-cases, comes_before-itself, first_of, both}
+use Rattle.state_runs.proofs.Keys.{same_key}
 use Rattle.state_runs.proofs.Lists.{found}
 
 -- some bounds hold of the keys within other bounds that come after a key
@@ -87,5 +88,5 @@ module _ (old new : List ℕ → Bool) (key : List ℕ) (fewer : (q : List ℕ) 
 -- past a removed key fewer changes are left
 pub fewer-left : (order : Order) (lo hi low high : Option (List ℕ)) (key : List ℕ) (runs : List Run) (value : Option (List ℕ)) → is_within lo hi key ≡ true → AreNarrowed order lo hi low high key → entry_in runs key ≡ Some value → count_all (is_within low high) runs < count_all (is_within lo hi) runs
 fewer-left order lo hi low high key runs value within narrowed is =
-    let out : is_within low high key ≡ false = narrowed key ∙ ap (λ b. b && comes_before order key key) within ∙ comes_before-itself order key in
+    let out : is_within low high key ≡ false = narrowed key ∙ ap (λ b. b && comes_before order key key) within ∙ comes_before-self order key in
     all-less (is_within lo hi) (is_within low high) key (λ q e. first_of _ _ (sym (narrowed q) ∙ e)) within out runs value is

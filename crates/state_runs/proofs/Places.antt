@@ -14,9 +14,10 @@ use Rattle.kv_layers.specs.declared.order.Order.TheVariants.{Ascending, Descendi
 use Rattle.kv_layers.specs.Bytes.{bytes_cmp}
 use Rattle.kv_layers.specs.Next.{comes_before, is_from, is_below, is_within, IsNext}
 use Rattle.kv_layers.specs.Rising.{change_view, KeysRise}
+use Rattle.kv_layers.proofs.Keys.{less_of, is_lt_of, first_of, second_of, both, from_later, from-not_below}
 use Rattle.state_runs.specs.Runs.{Run}
 use Rattle.state_runs.specs.Places.{count_below, first_from, last_below, nearest}
-use Rattle.state_runs.proofs.Keys.{less_of, is_lt_of, same_key, is_itself, less_trans, not_same-less, not_same-greater, not_less-cases, first_of, second_of, both, from-not_less, from_greater, below_less}
+use Rattle.state_runs.proofs.Keys.{same_key, is_itself, less_trans, not_same-less, not_same-greater, not_less-cases, below_less}
 use Rattle.state_runs.proofs.Lists.{found, Above, values_of, rising_first, rising_rest, above_less, found-other, found-same, found-above}
 
 abbrev pub Listed : Type 0
@@ -68,7 +69,7 @@ first-counted lo (c ∷ cs) =
       | true ↦ first-counted lo cs
       | false ↦ refl
     ]
-    ∙ ap (λ b. cond b (Some c) (first_from (Some lo) cs)) (sym (from-not_less lo c.0))
+    ∙ ap (λ b. cond b (Some c) (first_from (Some lo) cs)) (sym (from-not_below lo c.0))
 
 pub first-all : (cs : Run) → slice_get cs 0 ≡ first_from None cs
 first-all [] = refl
@@ -188,7 +189,7 @@ last-later lo hi c cs e above is h =
     not_first out q w less =
         elim (is_eq (bytes_cmp q c.0)) as (λ t. is_eq (bytes_cmp q c.0) ≡ t → t ≡ false) [
           | true ↦ λ t.
-              let from = from_greater lo c.0 e.0 (subst (λ x. is_from lo x ≡ true) (same_key q c.0 t) (first_of _ _ w)) less in
+              let from = from_later lo c.0 e.0 (subst (λ x. is_from lo x ≡ true) (same_key q c.0 t) (first_of _ _ w)) less in
               absurd (true≢false (sym (both _ _ from (last_below-below hi cs e is)) ∙ out))
           | false ↦ λ _. refl
         ] refl
@@ -228,4 +229,4 @@ found-first q (c ∷ cs) rising =
         | inr lt ↦ found-before q c cs rising lt ∙ sym (ap (λ b. cond b (Some c.1) None) (not_same-less q c.0 lt))
       ]
     ] refl
-    ∙ ap (λ b. if_at q (cond b (Some c) (first_from (Some q) cs))) (sym (from-not_less q c.0))
+    ∙ ap (λ b. if_at q (cond b (Some c) (first_from (Some q) cs))) (sym (from-not_below q c.0))

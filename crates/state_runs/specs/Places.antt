@@ -1,6 +1,6 @@
 -- Not for readers of contracts: it serves the proofs of this crate alone.
 -- Where a key stands among changes whose keys rise.
-use Rattle.std.specs.Prelude.{ℕ, suc, List, [], ◌∷◌, ◌++◌, Option, Some, None, if◌then◌else◌}
+use Rattle.std.specs.Prelude.{ℕ, suc, List, [], ◌∷◌, Option, Some, None, if◌then◌else◌}
 use Rattle.std.specs.Option.{option_or}
 use Rattle.std.specs.Ordering.{is_eq}
 use Rattle.kv_layers.specs.declared.order.Order.{Order}
@@ -43,8 +43,3 @@ from end (change ∷ changes) = if is_below end change.0 then from end changes e
 abbrev pub past : List ℕ → Run → Run
 past key [] = []
 past key (change ∷ changes) = if is_eq (bytes_cmp key change.0) then changes else change ∷ changes
-
--- a run laid over an older one
-abbrev pub laid_over : Run → Run → Run
-laid_over [] older = below None older
-laid_over (change ∷ newer) older = below (Some change.0) older ++ change ∷ laid_over newer (past change.0 (from (Some change.0) older))

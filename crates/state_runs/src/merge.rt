@@ -4,13 +4,12 @@ ghost use Rattle.std.specs.Option.{option_or, option_copied};
 ghost use Rattle.std.specs.Ordering.{nat_cmp};
 ghost use Rattle.std.specs.Cmp.Lexicographic.{slice_cmp};
 ghost use Rattle.std.specs.FinMap.{find};
-ghost use Rattle.kv_layers.specs.Next.{is_below};
 ghost use Rattle.kv_layers.specs.Rising.{change_view};
 ghost use Rattle.state_runs.specs.Places.{below, from, past};
 ghost use Rattle.state_runs.specs.Views.{run_view};
 
 use crate::run::{Run, is_at};
-use kv_layers::{Change, Order};
+use kv_layers::{Change, is_below};
 use std::alloc::{AllocError, Global};
 
 impl Run {
@@ -81,13 +80,4 @@ fn past<'o>(older: &'o [Change], key: &[u8]) -> &'o [Change]
         return older;
     };
     if is_at(change, key) { later } else { older }
-}
-
-fn is_below(end: Option<&[u8]>, key: &[u8]) -> bool
-    ensures { result ≡ is_below (option_copied end.entry) key.now }
-{
-    match end {
-        Some(end) => Order::Ascending.comes_before(key, end),
-        None => true,
-    }
 }

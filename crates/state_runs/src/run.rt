@@ -34,6 +34,15 @@ impl Run {
         }
     }
 
+    /// The same changes, with no room to spare in their list where there is memory to move them.
+    pub(crate) fn fitted(self) -> Run
+        ensures { run_view result ≡ run_view self }
+    {
+        let mut changes = self.changes;
+        changes.shrink_to_fit();
+        Run { changes }
+    }
+
     /// The change of the key, if there is one.
     pub(crate) fn change(&self, key: &[u8]) -> Option<&Option<Vec<u8>>>
         ensures { option_map value_view (option_copied result)

@@ -88,7 +88,7 @@ impl Snapshot {
     fn lone(alloc: Global, run: Run) -> Result<Snapshot, AllocError>
         ensures { IfOk result (λ snapshot. snapshot ≡ run_view run ∷ []) }
     {
-        let run = Arc::new(alloc, run)?;
+        let run = Arc::new(alloc, run.fitted())?;
         let mut runs = Vec::with_capacity(alloc, 1)?;
         runs.push(run)?;
         Ok(Snapshot { runs })
@@ -102,7 +102,7 @@ impl Snapshot {
         if number >= 0xFFFF_FFFF {
             return Err(AllocError);
         }
-        let newest = Arc::new(alloc, run)?;
+        let newest = Arc::new(alloc, run.fitted())?;
         let mut runs = Vec::with_capacity(alloc, number + 1)?;
         runs.push(newest)?;
         let runs = shared(runs, &self.runs)?;

@@ -2,9 +2,9 @@ use Rattle.std.proofs.Common.{◌≡◌, ◌++◌, [], ℕ, Option, ◌∙◌, s
 use Rattle.std.specs.Global.{Vec}
 use Rattle.std.specs.Vec.Iter.{into_iter_items}
 use Rattle.kv_layers.specs.Rising.{change_view, KeysRise}
-use Rattle.state_runs.specs.Places.{laid_over, past}
+use Rattle.state_runs.specs.Places.{past}
 use Rattle.state_runs.proofs.Lists.{found}
-use Rattle.state_runs.proofs.Laid.{rising-laid_over, found-laid_over}
+use Rattle.state_runs.proofs.Laid.{laid_over, rising-laid_over, found-laid_over}
 use Rattle.state_runs.proofs.Copying.{laid-step, laid-end, none-left}
 use Rattle.state_runs.proofs.run.Run.over.Goals as goal
 

@@ -1,7 +1,7 @@
 use Rattle.std.proofs.Common.{◌≡◌, ◌++◌, map}
 use Rattle.std.specs.Vec.Iter.{into_iter_items}
 use Rattle.kv_layers.specs.Rising.{change_view}
-use Rattle.state_runs.specs.Places.{laid_over}
+use Rattle.state_runs.proofs.Laid.{laid_over}
 use Rattle.state_runs.proofs.run.Run.over.Given as goal
 
 abbrev pub invariant-loop-key : goal.invariant-loop-key
