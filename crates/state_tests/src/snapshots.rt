@@ -67,14 +67,14 @@ fn value_at(alloc: Global, snapshot: &Snapshot, key: u8) -> Result<Option<u8>, A
 }
 
 /// The first key and its value, by their first bytes.
-fn next(
+fn next<B: Base>(
     alloc: Global,
-    snapshot: &Snapshot,
+    base: &B,
     lo: Option<&[u8]>,
     hi: Option<&[u8]>,
     order: Order,
 ) -> Result<Option<(u8, u8)>, AllocError> {
-    let Some((key, value)) = snapshot.next_in(alloc, lo, hi, order)? else {
+    let Some((key, value)) = base.next_in(alloc, lo, hi, order)? else {
         return Ok(None);
     };
     let pair = (
@@ -84,12 +84,59 @@ fn next(
     Ok(Some(pair))
 }
 
+/// The same, between bounds of one byte.
+fn next_between<B: Base>(
+    alloc: Global,
+    base: &B,
+    lo: Option<u8>,
+    hi: Option<u8>,
+    order: Order,
+) -> Result<Option<(u8, u8)>, AllocError> {
+    match (lo, hi) {
+        (Some(lo), Some(hi)) => next(alloc, base, Some(&[lo]), Some(&[hi]), order),
+        (Some(lo), None) => next(alloc, base, Some(&[lo]), None, order),
+        (None, Some(hi)) => next(alloc, base, None, Some(&[hi]), order),
+        (None, None) => next(alloc, base, None, None, order),
+    }
+}
+
+/// Whether the first entry is this one, byte for byte.
+fn begins_with(
+    alloc: Global,
+    snapshot: &Snapshot,
+    order: Order,
+    key: &[u8],
+    value: &[u8],
+) -> Result<bool, AllocError> {
+    match snapshot.next_in(alloc, None, None, order)? {
+        Some((found, entry)) => Ok(found.as_slice() == key && entry.as_slice() == value),
+        None => Ok(false),
+    }
+}
+
+/// The first pair where a layer above the lowest one removes these keys.
+fn next_left(
+    alloc: Global,
+    snapshot: &Snapshot,
+    removed: [u8; 3],
+    order: Order,
+) -> Result<Option<(u8, u8)>, AllocError> {
+    let mut layers = Layers::new(alloc, snapshot);
+    layers.push_layer(alloc)?;
+    for key in &removed {
+        layers.remove(alloc, &[*key])?;
+    }
+    next(alloc, &layers, None, None, order)
+}
+
 fn is_shareable<S: Send + Sync>(_snapshot: &S) -> bool {
     true
 }
 
 #[test]
-fn each_delta_but_an_empty_one_makes_a_run(rt: HostRuntime) -> Result<(), Fail> {
+fn each_delta_but_an_empty_one_makes_a_run_and_the_merge_has_one(
+    rt: HostRuntime,
+) -> Result<(), Fail> {
     let alloc = rt.alloc();
     let first = lone(alloc, 0x01, 0xAA)?;
     let second = first.with_delta(alloc, lone_delta(alloc, 0x02, Some(0xBB))?)?;
@@ -101,10 +148,95 @@ fn each_delta_but_an_empty_one_makes_a_run(rt: HostRuntime) -> Result<(), Fail> 
     assert_eq!(rt; last.runs(), 3);
     assert_eq!(rt; value_at(alloc, &last, 0x01)?, None);
     assert_eq!(rt; value_at(alloc, &first, 0x01)?, Some(0xAA));
-    assert_eq!(rt;
-        next(alloc, &last, None, None, Order::Ascending)?,
-        Some((0x02, 0xBB))
-    );
+    let merged = last.merge(alloc)?;
+    assert_eq!(rt; merged.runs(), 1);
+    for (lo, hi, order, want) in [
+        (None, None, Order::Ascending, Some((0x02, 0xBB))),
+        (Some(0x03), None, Order::Ascending, None),
+        (None, None, Order::Descending, Some((0x02, 0xBB))),
+        (None, Some(0x02), Order::Descending, None),
+    ] {
+        assert_eq!(rt; next_between(alloc, &last, lo, hi, order)?, want);
+        assert_eq!(rt; next_between(alloc, &merged, lo, hi, order)?, want);
+    }
+    Ok(())
+}
+
+#[test]
+fn a_scan_down_with_no_upper_bound_begins_at_the_last_key_of_all_runs(
+    rt: HostRuntime,
+) -> Result<(), Fail> {
+    let alloc = rt.alloc();
+    let first = lone(alloc, 0x01, 0xAA)?;
+    let second = layered(alloc, &first, (0x02, Some(0xBB)), (0x05, Some(0xEE)))?;
+    let third = second.with_delta(alloc, lone_delta(alloc, 0x05, None)?)?;
+    let last = third.with_delta(alloc, lone_delta(alloc, 0x03, Some(0xCC))?)?;
+    assert_eq!(rt; last.runs(), 4);
+    for (lo, hi, want) in [
+        (None, None, Some((0x03, 0xCC))),
+        (Some(0x03), None, Some((0x03, 0xCC))),
+        (Some(0x04), None, None),
+        (None, Some(0x03), Some((0x02, 0xBB))),
+        (Some(0x01), Some(0x02), Some((0x01, 0xAA))),
+        (None, Some(0x01), None),
+    ] {
+        assert_eq!(rt;
+            next_between(alloc, &last, lo, hi, Order::Descending)?,
+            want
+        );
+    }
+    Ok(())
+}
+
+#[test]
+fn a_plain_map_of_two_keys_is_one_run_with_all_their_bytes(rt: HostRuntime) -> Result<(), Fail> {
+    let alloc = rt.alloc();
+    let mut plain = Plain::new(alloc);
+    plain.insert(b"key".to_vec(alloc)?, b"a value".to_vec(alloc)?)?;
+    plain.insert(b"ke".to_vec(alloc)?, Vec::new(alloc))?;
+    let first = Snapshot::from_plain(alloc, plain)?;
+    assert_eq!(rt; first.runs(), 1);
+    assert!(rt; begins_with(alloc, &first, Order::Ascending, b"ke", b"")?);
+    assert!(rt; begins_with(alloc, &first, Order::Descending, b"key", b"a value")?);
+    let mut layers = Layers::new(alloc, &first);
+    layers.set(alloc, b"keys", b"other values")?;
+    layers.remove(alloc, b"ke")?;
+    let last = first.with_delta(alloc, layers.into_delta())?;
+    for snapshot in [last.merge(alloc)?, last] {
+        assert!(rt; begins_with(alloc, &snapshot, Order::Ascending, b"key", b"a value")?);
+        assert!(rt;
+            begins_with(
+                alloc,
+                &snapshot,
+                Order::Descending,
+                b"keys",
+                b"other values"
+            )?
+        );
+    }
+    Ok(())
+}
+
+#[test]
+fn layers_pass_the_keys_that_they_remove_before_at_and_after_the_first_one_below(
+    rt: HostRuntime,
+) -> Result<(), Fail> {
+    let alloc = rt.alloc();
+    let first = lone(alloc, 0x02, 0x22)?;
+    let last = layered(alloc, &first, (0x04, Some(0x44)), (0x06, Some(0x66)))?;
+    // the keys that are removed, and the first pair up and down
+    for (removed, up, down) in [
+        ([0x01, 0x05, 0x07], Some((0x02, 0x22)), Some((0x06, 0x66))),
+        ([0x01, 0x02, 0x03], Some((0x04, 0x44)), Some((0x06, 0x66))),
+        ([0x05, 0x06, 0x07], Some((0x02, 0x22)), Some((0x04, 0x44))),
+        ([0x02, 0x03, 0x06], Some((0x04, 0x44)), Some((0x04, 0x44))),
+        ([0x02, 0x03, 0x04], Some((0x06, 0x66)), Some((0x06, 0x66))),
+        ([0x04, 0x05, 0x06], Some((0x02, 0x22)), Some((0x02, 0x22))),
+        ([0x02, 0x04, 0x06], None, None),
+    ] {
+        assert_eq!(rt; next_left(alloc, &last, removed, Order::Ascending)?, up);
+        assert_eq!(rt; next_left(alloc, &last, removed, Order::Descending)?, down);
+    }
     Ok(())
 }
 
