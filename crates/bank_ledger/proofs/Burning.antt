@@ -1,5 +1,5 @@
 -- Where some of the coins were burned and others are left.
-use Rattle.std.proofs.Common.{◌≡◌, ℕ, ◌-◌, ◌<◌, ◌≤◌, Bool, true, false, cond, List, [], ◌∷◌, Option, Some, None, refl, sym, ap, ◌∙◌, arith}
+use Rattle.std.proofs.Common.{◌≡◌, ℕ, ◌-◌, ◌<◌, ◌≤◌, Bool, true, false, cond, List, [], ◌∷◌, Option, Some, None, refl, sym, ap, ◌∙◌, subst, arith}
 use Rattle.std.specs.Option.{is_some}
 use Rattle.std.specs.Str.{bytes_eq}
 use Rattle.std.specs.List.{list_any}
@@ -15,27 +15,32 @@ use Rattle.bank_ledger.specs.Balances.{amount_in, lowered, shortfall}
 use Rattle.bank_ledger.specs.Accounts.{balance, supply, total}
 use Rattle.bank_ledger.specs.Lawful.{HasLawfulAmounts}
 use Rattle.bank_ledger.specs.Effects.{IsBurned}
-use Rattle.bank_ledger.specs.Steps.{taken, one_burned, CanBurn}
+use Rattle.bank_ledger.specs.Steps.{amounts_left, drained, burned_leaving, CanBurn}
 use Rattle.bank_ledger.proofs.Orders.{addressed_total, addressed_exact}
 use Rattle.bank_ledger.proofs.Records.{amount_of, made}
 use Rattle.bank_ledger.proofs.Changed.{balance_less, balance_below, supply_less, total_less, accounts_with_amount, supplies_with_amount, denom_held}
-use Rattle.bank_ledger.proofs.Paying.{AreAbove, one_lowered, lowered_step, shortfall_lowered, drained_step, enough}
-use Rattle.bank_ledger.proofs.Sending.{has_coin, no_entry}
+use Rattle.bank_ledger.proofs.Paying.{AreAbove, one_lowered, lowered_step, lowered_else, shortfall_lowered, same_left, drained_step, enough}
+use Rattle.bank_ledger.proofs.Sending.{taken, has_coin, left_first, no_entry}
 
-pub record PartlyBurned (s : State) (from : List ℕ) (coins rest : List Coin) (t : State) : Type 0 where
+abbrev pub one_burned : State → List ℕ → Coin → State
+one_burned s from coin = drained (taken s from coin) coin
+
+-- some of the coins were burned, and these are what is left of each other
+pub record PartlyBurned (s : State) (from : List ℕ) (coins rest : List Coin) (left : List ℕ) (t : State) : Type 0 where
   pub had : shortfall (balance s) from coins ≡ None
   pub lawful : HasLawfulAmounts t
   pub enough : shortfall (balance t) from rest ≡ None
+  pub leaves : left ≡ amounts_left (balance t) from rest
   pub lowers : (addr denom : List ℕ) → lowered (balance t) from rest addr denom ≡ lowered (balance s) from coins addr denom
   pub supplies : (denom : List ℕ) → supply t denom - amount_in rest denom ≡ supply s denom - amount_in coins denom
   pub totals : (denom : List ℕ) → total t denom - amount_in rest denom ≡ total s denom - amount_in coins denom
   pub others : t ≡ record s { balances = t.balances; supplies = t.supplies }
 
-pub none_burned : (s : State) (from : List ℕ) (coins : List Coin) → HasLawfulAmounts s → shortfall (balance s) from coins ≡ None → PartlyBurned s from coins coins s
-none_burned s from coins lawful enough = record { had = enough; lawful = lawful; enough = enough; lowers = λ addr denom. refl; supplies = λ denom. refl; totals = λ denom. refl; others = refl }
+pub none_burned : (s : State) (from : List ℕ) (coins : List Coin) (left : List ℕ) → HasLawfulAmounts s → (shortfall (balance s) from coins ≡ None) × (left ≡ amounts_left (balance s) from coins) → PartlyBurned s from coins coins left s
+none_burned s from coins left lawful has = record { had = has.0; lawful = lawful; enough = has.0; leaves = has.1; lowers = λ addr denom. refl; supplies = λ denom. refl; totals = λ denom. refl; others = refl }
 
-pub can_burn : (t : State) (from : List ℕ) (coin : Coin) → HasLawfulAmounts t → coin.amount ≤ balance t from coin.denom → CanBurn from coin t
-can_burn t from coin lawful has = let below = balance_below t from coin.denom in (has, omega (arith, below, lawful.sums coin.denom))
+pub can_burn : (s t : State) (from : List ℕ) (coins : List Coin) (coin : Coin) (rest : List Coin) (left : List ℕ) → PartlyBurned s from coins (coin ∷ rest) left t → CanBurn coin t
+can_burn s t from coins coin rest left so = let has = has_coin t from coin rest so.enough in let below = balance_below t from coin.denom in omega (arith, has, below, so.lawful.sums coin.denom)
 
 -- ---- one coin more
 
@@ -61,20 +66,23 @@ one_burned_lawful t from coin is_from positive has lawful =
 with_others : (s t u : State) → t ≡ record s { balances = t.balances; supplies = t.supplies } → u ≡ record t { balances = u.balances; supplies = u.supplies } → u ≡ record s { balances = u.balances; supplies = u.supplies }
 with_others s t u first then = then ∙ ap (λ (x : State). record x { balances = u.balances; supplies = u.supplies }) first
 
-pub one_more_burned : (s t : State) (from : List ℕ) (coins : List Coin) (coin : Coin) (rest : List Coin) → IsAddress from → 0 < coin.amount → AreAbove coin.denom rest → PartlyBurned s from coins (coin ∷ rest) t
-    → PartlyBurned s from coins rest (one_burned t from coin)
-one_more_burned s t from coins coin rest is_from positive above so =
+pub one_more_burned : (s t : State) (from : List ℕ) (coins : List Coin) (coin : Coin) (rest : List Coin) (left : ℕ) (others : List ℕ) → IsAddress from → 0 < coin.amount → AreAbove coin.denom rest
+    → PartlyBurned s from coins (coin ∷ rest) (left ∷ others) t → PartlyBurned s from coins rest others (burned_leaving t from coin left)
+one_more_burned s t from coins coin rest left others is_from positive above so =
     let has = has_coin t from coin rest so.enough in
-    let left = enough (balance t) from coin rest so.enough in
-    record {
+    let next = enough (balance t) from coin rest so.enough in
+    let first = left_first t from coin rest left others so.leaves in
+    let burned : PartlyBurned s from coins rest others (one_burned t from coin) = record {
       had = so.had;
       lawful = one_burned_lawful t from coin is_from positive has so.lawful;
-      enough = shortfall_lowered (balance t) (balance (one_burned t from coin)) from coin rest above (one_burned_balance t from coin) ∙ left.1;
+      enough = shortfall_lowered (balance t) (balance (one_burned t from coin)) from coin rest above (one_burned_balance t from coin) ∙ next.1;
+      leaves = first.1 ∙ sym (same_left (balance t) (balance (one_burned t from coin)) from coin.denom rest above (λ denom differs. lowered_else (balance t) (balance (one_burned t from coin)) from coin denom differs (one_burned_balance t from coin)));
       lowers = λ addr denom. lowered_step (balance t) (balance (one_burned t from coin)) from coin rest (one_burned_balance t from coin) addr denom ∙ so.lowers addr denom;
       supplies = λ denom. ap (λ n. n - amount_in rest denom) (one_burned_supply t from coin denom) ∙ drained_step (supply t denom) coin rest denom ∙ so.supplies denom;
       totals = λ denom. ap (λ n. n - amount_in rest denom) (one_burned_total t from coin denom has) ∙ drained_step (total t denom) coin rest denom ∙ so.totals denom;
       others = with_others s t (one_burned t from coin) so.others refl;
-    }
+    } in
+    subst (λ (n : ℕ). PartlyBurned s from coins rest others (burned_leaving t from coin n)) (sym first.0) burned
 
 -- ---- all coins
 
@@ -92,8 +100,8 @@ lowered_nothing false x = omega arith
 zero_lowered : (x lost : ℕ) → x ≡ 0 → x - lost ≡ 0
 zero_lowered x lost e = omega arith
 
-pub all_burned : (s t : State) (from : List ℕ) (coins : List Coin) → PartlyBurned s from coins [] t → IsBurned s from coins t
-all_burned s t from coins so =
+pub all_burned : (s t : State) (from : List ℕ) (coins : List Coin) (left : List ℕ) → PartlyBurned s from coins [] left t → IsBurned s from coins t
+all_burned s t from coins left so =
     let balances = λ (a d : List ℕ). sym (lowered_nothing (bytes_eq from a) (balance t a d)) ∙ so.lowers a d in
     let supplies = λ (d : List ℕ). let nothing : supply t d - 0 ≡ supply t d = omega arith in sym nothing ∙ so.supplies d in
     let new_balances = made addressed_total addressed_exact t.balances (λ (q : Addressed). lowered (balance s) from coins q.0 q.1) (finite.keys s.balances) (λ q n found. (so.lawful.accounts q.0 q.1 n found).0) (λ q. balances q.0 q.1)

@@ -13,7 +13,8 @@ use Rattle.chain_records.specs.Keys as keys
 use Rattle.chain_records.specs.State.{Addressed, addressed_cmp, State}
 use Rattle.chain_records.specs.Keys.{IsAddress}
 use Rattle.bank_ledger.specs.Accounts.{balance, supply, counted, total}
-use Rattle.bank_ledger.specs.Steps.{with_amount, with_less, with_more}
+use Rattle.bank_ledger.specs.Amounts.{with_amount, with_more}
+use Rattle.bank_ledger.specs.Steps.{with_less}
 use Rattle.bank_ledger.proofs.Orders.{addressed_total, addressed_exact, same_account, equal_of}
 use Rattle.bank_ledger.proofs.Records.{record_of, amount_of, get_with_record, amount_with_record, record_positive}
 use Rattle.bank_ledger.proofs.Sums.{sum_with_record, one_within}

@@ -7,7 +7,8 @@ use Rattle.chain_records.specs.Keys as keys
 use Rattle.chain_records.specs.Records.{PlainStored, facts, counters, amount, code_bytes, code_info, mark, contract, value, Belongs, IsRecordUnder}
 use Rattle.chain_records.specs.State.{Bytes, State, entry_of, Spells, IsFound}
 use Rattle.chain_records.specs.Laws.{SpellsRecords, TellsRecords}
-use Rattle.bank_ledger.specs.Steps.{IsAmountKey, amount_under}
+use Rattle.bank_ledger.specs.Amounts.{amount_under}
+use Rattle.bank_ledger.specs.Steps.{IsAmountKey}
 
 amount_only : (key : PlainKey) (stored : PlainStored) → IsAmountKey key → Belongs key stored → (n : ℕ) × (stored ≡ amount n)
 amount_only (keys.balance a d) (amount n) is b = (n, refl)

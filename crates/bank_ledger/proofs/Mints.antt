@@ -7,7 +7,7 @@ use Rattle.chain_records.specs.State.{Bytes, State, Spells}
 use Rattle.bank_ledger.specs.Accounts.{balance, supply}
 use Rattle.bank_ledger.specs.Lawful.{HasLawfulAmounts}
 use Rattle.bank_ledger.specs.Minted.{minted, IsMinted}
-use Rattle.bank_ledger.specs.Steps.{with_amount, with_more}
+use Rattle.bank_ledger.specs.Amounts.{with_amount, with_more}
 use Rattle.bank_ledger.proofs.Changed.{balance_below, balance_more, supply_more}
 use Rattle.bank_ledger.proofs.Opening.{minted_lawful}
 

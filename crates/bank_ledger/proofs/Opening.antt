@@ -15,10 +15,10 @@ use Rattle.chain_records.specs.Records.{PlainFacts, facts, counters, IsRecordOf}
 use Rattle.chain_records.specs.State.{Bytes, addressed_cmp, State, Spells}
 use Rattle.chain_records.specs.Changes.{bare}
 use Rattle.chain_records.specs.Laws.{SpellsFirst}
-use Rattle.bank_ledger.specs.Accounts.{balance, supply, counted}
+use Rattle.bank_ledger.specs.Accounts.{supply, counted}
 use Rattle.bank_ledger.specs.Lawful.{HasLawfulAmounts}
 use Rattle.bank_ledger.specs.Minted.{minted}
-use Rattle.bank_ledger.specs.Steps.{with_more}
+use Rattle.bank_ledger.specs.Amounts.{with_more}
 use Rattle.bank_ledger.proofs.Changed.{total_more, accounts_with_amount, supplies_with_amount, supply_more}
 
 -- the bytes of facts and counters, written under those of their keys

@@ -1,5 +1,6 @@
 -- Moving and burning coins one by one, where their denoms rise and the account has enough of each.
-use Rattle.std.proofs.Common.{◌≡◌, ℕ, ◌+◌, ◌-◌, ◌<◌, ◌≤◌, inl, inr, Bool, true, false, cond, List, [], ◌∷◌, map, Option, None, Some, refl, sym, ap, ◌∙◌, arith, bytes_eq}
+use Rattle.std.proofs.Common.{◌≡◌, ℕ, ◌+◌, ◌-◌, ◌<◌, ◌≤◌, inl, inr, Bool, true, false, cond, List, [], ◌∷◌, ◌++◌, length, get_or, drop, map, Option, None, Some, refl, sym, ap, ◌∙◌, append_assoc, append-nil, arith, bytes_eq}
+use Rattle.std.proofs.lemmas.List.{drop_more, length-map}
 use Rattle.std.proofs.lemmas.List.Sums.{sum_by-cons}
 use Rattle.std.proofs.lemmas.Bool.Decides.{leb_tells}
 use Rattle.std.proofs.lemmas.Map.Text.{is_eq-slice_cmp}
@@ -10,9 +11,11 @@ use Rattle.std.specs.List.Sorted.{IsStrictlySortedBy}
 use Rattle.std.specs.Ordering.{nat_cmp, is_eq, ordering_reverse}
 use Rattle.std.specs.Bool.{nat_le}
 use Rattle.std.specs.declared.cmp.Ordering.TheVariants.{Less}
-use Rattle.coin_amounts.specs.Plain.{Coin}
+use Rattle.coin_amounts.specs.declared.coin.Coin as coin_type
+use Rattle.coin_amounts.specs.Plain.{Coin, coin_view}
 use Rattle.coin_amounts.specs.Order.{IsRising}
 use Rattle.bank_ledger.specs.Balances.{Balances, share, amount_in, part, moved, lowered, Shortfall, shortfall}
+use Rattle.bank_ledger.specs.Steps.{amounts_left}
 
 -- the coins' denoms are above this one
 abbrev pub AreAbove : List ℕ → List Coin → Type 0
@@ -74,7 +77,7 @@ pub moved_step : (b n : Balances) (from to : List ℕ) (coin : Coin) (coins : Li
 moved_step b n from to coin coins above is address denom =
     ap (λ x. x - part from address coins denom + part to address coins denom) (is address denom) ∙ move_with b from to coin coins address denom _ refl above
 
-kept_else : (b n : Balances) (from to : List ℕ) (coin : Coin) (denom : List ℕ) → bytes_eq coin.denom denom ≡ false → ((address denom : List ℕ) → n address denom ≡ one_moved b from to coin address denom) → n from denom ≡ b from denom
+pub kept_else : (b n : Balances) (from to : List ℕ) (coin : Coin) (denom : List ℕ) → bytes_eq coin.denom denom ≡ false → ((address denom : List ℕ) → n address denom ≡ one_moved b from to coin address denom) → n from denom ≡ b from denom
 kept_else b n from to coin denom differs is = is from denom ∙ rw differs (omega arith)
 
 pub shortfall_step : (b n : Balances) (from to : List ℕ) (coin : Coin) (coins : List Coin) → AreAbove coin.denom coins → ((address denom : List ℕ) → n address denom ≡ one_moved b from to coin address denom)
@@ -90,6 +93,38 @@ enough_by false rest short none = cc
 
 pub enough : (b : Balances) (from : List ℕ) (coin : Coin) (coins : List Coin) → shortfall b from (coin ∷ coins) ≡ None → (nat_le coin.amount (b from coin.denom) ≡ true) × (shortfall b from coins ≡ None)
 enough b from coin coins none = enough_by (nat_le coin.amount (b from coin.denom)) (shortfall b from coins) _ none
+
+-- ---- what is left of each coin's denom
+
+-- where only balances of another denom are changed, what is left of coins whose denoms are above it stays
+pub same_left : (b n : Balances) (from denom : List ℕ) (coins : List Coin) → AreAbove denom coins → ((other : List ℕ) → bytes_eq denom other ≡ false → n from other ≡ b from other) → amounts_left n from coins ≡ amounts_left b from coins
+same_left b n from denom [] above same = refl
+same_left b n from denom (coin ∷ coins) above same =
+    let here = same coin.denom (above_differs denom coin.denom above.0) in
+    let there = same_left b n from denom coins above.1 same in
+    λ i. (here i - coin.amount) ∷ there i
+
+pub same_parts : (x y : ℕ) (xs ys : List ℕ) → x ∷ xs ≡ y ∷ ys → (x ≡ y) × (xs ≡ ys)
+same_parts x y xs ys e = let first : x ≡ y = cc in let others : xs ≡ ys = cc in (first, others)
+
+pub left_more : (b : Balances) (from : List ℕ) (coin : Coin) (rest : List Coin) (done new all : List ℕ) (have : ℕ) → have ≡ b from coin.denom → new ≡ done ++ (have - coin.amount) ∷ [] → done ++ amounts_left b from (coin ∷ rest) ≡ all
+    → new ++ amounts_left b from rest ≡ all
+left_more b from coin rest done new all have is pushed so =
+    ap (λ l. l ++ amounts_left b from rest) pushed ∙ append_assoc done ((have - coin.amount) ∷ []) (amounts_left b from rest)
+    ∙ ap (λ (n : ℕ). done ++ (n - coin.amount) ∷ amounts_left b from rest) is ∙ so
+
+pub left_all : (b : Balances) (from : List ℕ) (coins : List Coin) (done all : List ℕ) → coins ≡ [] → done ++ amounts_left b from coins ≡ all → done ≡ all
+left_all b from coins done all none so = sym (append-nil done) ∙ ap (λ (c : List Coin). done ++ amounts_left b from c) (sym none) ∙ so
+
+pub left_count : (b : Balances) (from : List ℕ) (items : List coin_type.Coin) (left : List ℕ) → left ≡ amounts_left b from (map coin_view items) → length left ≡ length items
+left_count b from items left is = ap length is ∙ simp length-map
+
+-- the coin at a place, and those behind it
+pub coins_from : (items : List coin_type.Coin) (i : ℕ) (item : coin_type.Coin) → i < length items → item ≡ get_or items i item → map coin_view (drop i items) ≡ coin_view item ∷ map coin_view (drop (i + 1) items)
+coins_from items i item within is = ap (map coin_view) (drop_more items i item within) ∙ ap (λ x. coin_view x ∷ map coin_view (drop (i + 1) items)) (sym is)
+
+pub left_from : (left : List ℕ) (i n : ℕ) → i < length left → n ≡ get_or left i n → drop i left ≡ n ∷ drop (i + 1) left
+left_from left i n within is = drop_more left i n within ∙ ap (λ (x : ℕ). x ∷ drop (i + 1) left) (sym is)
 
 -- ---- reading one balance
 
@@ -129,7 +164,7 @@ lowered_step b n from coin coins is address denom =
     ∙ both_lowered (bytes_eq from address) (bytes_eq coin.denom denom) (b address denom) coin.amount (amount_in coins denom)
     ∙ ap (λ x. b address denom - cond (bytes_eq from address) x 0) (sym (sum_by-cons (share denom) coin coins))
 
-lowered_else : (b n : Balances) (from : List ℕ) (coin : Coin) (denom : List ℕ) → bytes_eq coin.denom denom ≡ false → ((address denom : List ℕ) → n address denom ≡ one_lowered b from coin address denom) → n from denom ≡ b from denom
+pub lowered_else : (b n : Balances) (from : List ℕ) (coin : Coin) (denom : List ℕ) → bytes_eq coin.denom denom ≡ false → ((address denom : List ℕ) → n address denom ≡ one_lowered b from coin address denom) → n from denom ≡ b from denom
 lowered_else b n from coin denom differs is = is from denom ∙ rw differs (omega arith)
 
 pub shortfall_lowered : (b n : Balances) (from : List ℕ) (coin : Coin) (coins : List Coin) → AreAbove coin.denom coins → ((address denom : List ℕ) → n address denom ≡ one_lowered b from coin address denom)

@@ -8,7 +8,7 @@ use Rattle.std.specs.Cmp.{IsTotalOrder}
 use Rattle.std.specs.FinMap.{FinMap, get, insert, remove, IsAntisymmetric, same_map, get-insert, get-remove, get-empty}
 use Rattle.std.proofs.lemmas.Bool.Decides.{eqb_tells}
 use Rattle.bank_ledger.specs.Accounts.{amounts_at}
-use Rattle.bank_ledger.specs.Steps.{with_record}
+use Rattle.bank_ledger.specs.Amounts.{with_record}
 use Rattle.bank_ledger.proofs.Orders.{equal_of}
 
 abbrev nothing : Option ℕ

@@ -1,5 +1,5 @@
 -- Where some of the coins were sent and others are left.
-use Rattle.std.proofs.Common.{◌≡◌, ℕ, ◌+◌, ◌-◌, ◌<◌, ◌≤◌, Bool, true, false, cond, ◌||◌, ◌&&◌, List, [], ◌∷◌, ◌++◌, map, Option, Some, None, refl, sym, ap, ◌∙◌, arith, inl, inr}
+use Rattle.std.proofs.Common.{◌≡◌, ℕ, ◌+◌, ◌-◌, ◌<◌, ◌≤◌, ◌^◌, Bool, true, false, cond, ◌||◌, ◌&&◌, List, [], ◌∷◌, ◌++◌, map, Option, Some, None, refl, sym, ap, ◌∙◌, subst, arith, inl, inr}
 use Rattle.std.specs.Option.{is_some}
 use Rattle.std.specs.Str.{bytes_eq}
 use Rattle.std.specs.List.{list_any}
@@ -13,26 +13,36 @@ use Rattle.std.proofs.lemmas.Slice.Eq.{bytes_eq-Decides}
 use Rattle.coin_amounts.specs.Plain.{Coin}
 use Rattle.chain_records.specs.State.{Addressed, addressed_cmp, State}
 use Rattle.chain_records.specs.Keys.{IsAddress}
+use Rattle.chain_records.specs.Keys as keys
 use Rattle.bank_ledger.specs.Balances.{amount_in, part, share, moved, shortfall}
 use Rattle.bank_ledger.specs.Accounts.{balance, total, accounts_with}
 use Rattle.bank_ledger.specs.Lawful.{HasLawfulAmounts}
 use Rattle.bank_ledger.specs.Effects.{IsSent}
-use Rattle.bank_ledger.specs.Steps.{taken, one_sent, CanSend}
+use Rattle.bank_ledger.specs.Steps.{with_less, left_after, amounts_left, given, sent_leaving, CanSend}
 use Rattle.bank_ledger.proofs.Orders.{addressed_total, addressed_exact, same_account}
 use Rattle.bank_ledger.proofs.Records.{amount_of, made}
 use Rattle.bank_ledger.proofs.Changed.{none, bytes_eq-sym, balance_less, balance_more, balance_below, total_less, total_more, accounts_with_amount, denom_held}
-use Rattle.bank_ledger.proofs.Paying.{AreAbove, one_moved, moved_step, shortfall_step, enough}
+use Rattle.bank_ledger.proofs.Paying.{AreAbove, one_moved, moved_step, kept_else, shortfall_step, same_left, same_parts, enough}
 
-pub record PartlySent (s : State) (from to : List ℕ) (coins rest : List Coin) (t : State) : Type 0 where
+-- an account has less by a coin
+abbrev pub taken : State → List ℕ → Coin → State
+taken s from coin = with_less s (keys.balance from coin.denom) coin.amount
+
+abbrev pub one_sent : State → List ℕ → List ℕ → Coin → State
+one_sent s from to coin = given (taken s from coin) to coin
+
+-- some of the coins were sent, and these are what is left of each other
+pub record PartlySent (s : State) (from to : List ℕ) (coins rest : List Coin) (left : List ℕ) (t : State) : Type 0 where
   pub had : shortfall (balance s) from coins ≡ None
   pub lawful : HasLawfulAmounts t
   pub enough : shortfall (balance t) from rest ≡ None
+  pub leaves : left ≡ amounts_left (balance t) from rest
   pub moves : (addr denom : List ℕ) → moved (balance t) from to rest addr denom ≡ moved (balance s) from to coins addr denom
   pub totals : (denom : List ℕ) → total t denom ≡ total s denom
   pub others : t ≡ record s { balances = t.balances }
 
-pub none_sent : (s : State) (from to : List ℕ) (coins : List Coin) → HasLawfulAmounts s → shortfall (balance s) from coins ≡ None → PartlySent s from to coins coins s
-none_sent s from to coins lawful enough = record { had = enough; lawful = lawful; enough = enough; moves = λ addr denom. refl; totals = λ denom. refl; others = refl }
+pub none_sent : (s : State) (from to : List ℕ) (coins : List Coin) (left : List ℕ) → HasLawfulAmounts s → (shortfall (balance s) from coins ≡ None) × (left ≡ amounts_left (balance s) from coins) → PartlySent s from to coins coins left s
+none_sent s from to coins left lawful has = record { had = has.0; lawful = lawful; enough = has.0; leaves = has.1; moves = λ addr denom. refl; totals = λ denom. refl; others = refl }
 
 within : (m n : ℕ) → nat_le m n ≡ true → m ≤ n
 within m n e = elim (leb_tells m n) [ inl p ↦ p.1 | inr p ↦ let f = sym p.0 ∙ e in absurd cc ]
@@ -44,12 +54,17 @@ has_coin s from coin rest none = within coin.amount (balance s from coin.denom) 
 pub same_bytes : (x : List ℕ) → bytes_eq x x ≡ true
 same_bytes x = (bytes_eq-Decides x x).1 refl
 
-pub can_send : (t : State) (from to : List ℕ) (coin : Coin) → HasLawfulAmounts t → coin.amount ≤ balance t from coin.denom → CanSend from to coin t
-can_send t from to coin lawful has =
-    let less = total_less t from coin.denom coin.amount coin.denom has in
+-- the number that stands first is what is left of the next coin's denom
+pub left_first : (t : State) (from : List ℕ) (coin : Coin) (rest : List Coin) (left : ℕ) (others : List ℕ) → left ∷ others ≡ amounts_left (balance t) from (coin ∷ rest) → (left ≡ left_after (balance t) from coin) × (others ≡ amounts_left (balance t) from rest)
+left_first t from coin rest left others leaves = same_parts left (left_after (balance t) from coin) others (amounts_left (balance t) from rest) leaves
+
+pub can_send : (s t : State) (from to : List ℕ) (coins : List Coin) (coin : Coin) (rest : List Coin) (left : ℕ) (others : List ℕ) → PartlySent s from to coins (coin ∷ rest) (left ∷ others) t → CanSend from to coin left t
+can_send s t from to coins coin rest left others so =
+    let less = total_less t from coin.denom coin.amount coin.denom (has_coin t from coin rest so.enough) in
     let here : cond (bytes_eq coin.denom coin.denom) coin.amount 0 ≡ coin.amount = ap (λ b. cond b coin.amount 0) (same_bytes coin.denom) in
     let below = balance_below (taken t from coin) to coin.denom in
-    (has, omega (arith, less.0, less.1, here, below, lawful.sums coin.denom, lawful.bounded coin.denom))
+    let fits : balance (taken t from coin) to coin.denom + coin.amount < 2 ^ 128 = omega (arith, less.0, less.1, here, below, so.lawful.sums coin.denom, so.lawful.bounded coin.denom) in
+    subst (λ (n : ℕ). CanSend from to coin n t) (sym (left_first t from coin rest left others so.leaves).0) fits
 
 -- ---- one coin more
 
@@ -77,19 +92,22 @@ one_sent_lawful t from to coin is_from is_to positive has lawful =
 with_others : (s t u : State) → t ≡ record s { balances = t.balances } → u ≡ record t { balances = u.balances } → u ≡ record s { balances = u.balances }
 with_others s t u first then = then ∙ ap (λ (x : State). record x { balances = u.balances }) first
 
-pub one_more_sent : (s t : State) (from to : List ℕ) (coins : List Coin) (coin : Coin) (rest : List Coin) → IsAddress from → IsAddress to → 0 < coin.amount → AreAbove coin.denom rest → PartlySent s from to coins (coin ∷ rest) t
-    → PartlySent s from to coins rest (one_sent t from to coin)
-one_more_sent s t from to coins coin rest is_from is_to positive above so =
+pub one_more_sent : (s t : State) (from to : List ℕ) (coins : List Coin) (coin : Coin) (rest : List Coin) (left : ℕ) (others : List ℕ) → IsAddress from → IsAddress to → 0 < coin.amount → AreAbove coin.denom rest
+    → PartlySent s from to coins (coin ∷ rest) (left ∷ others) t → PartlySent s from to coins rest others (sent_leaving t from to coin left)
+one_more_sent s t from to coins coin rest left others is_from is_to positive above so =
     let has = has_coin t from coin rest so.enough in
-    let left = enough (balance t) from coin rest so.enough in
-    record {
+    let next = enough (balance t) from coin rest so.enough in
+    let first = left_first t from coin rest left others so.leaves in
+    let sent : PartlySent s from to coins rest others (one_sent t from to coin) = record {
       had = so.had;
       lawful = one_sent_lawful t from to coin is_from is_to positive has so.lawful;
-      enough = shortfall_step (balance t) (balance (one_sent t from to coin)) from to coin rest above (one_sent_balance t from to coin) ∙ left.1;
+      enough = shortfall_step (balance t) (balance (one_sent t from to coin)) from to coin rest above (one_sent_balance t from to coin) ∙ next.1;
+      leaves = first.1 ∙ sym (same_left (balance t) (balance (one_sent t from to coin)) from coin.denom rest above (λ denom differs. kept_else (balance t) (balance (one_sent t from to coin)) from to coin denom differs (one_sent_balance t from to coin)));
       moves = λ addr denom. moved_step (balance t) (balance (one_sent t from to coin)) from to coin rest above (one_sent_balance t from to coin) addr denom ∙ so.moves addr denom;
       totals = λ denom. one_sent_total t from to coin denom has ∙ so.totals denom;
       others = with_others s t (one_sent t from to coin) so.others refl;
-    }
+    } in
+    subst (λ (n : ℕ). PartlySent s from to coins rest others (sent_leaving t from to coin n)) (sym first.0) sent
 
 -- ---- all coins
 
@@ -137,8 +155,8 @@ moved_nothing false false x = omega arith
 zero_moved : (x lost gained : ℕ) → x ≡ 0 → gained ≡ 0 → x - lost + gained ≡ 0
 zero_moved x lost gained none more = omega arith
 
-pub all_sent : (s t : State) (from to : List ℕ) (coins : List Coin) → PartlySent s from to coins [] t → IsSent s from to coins t
-all_sent s t from to coins so =
+pub all_sent : (s t : State) (from to : List ℕ) (coins : List Coin) (left : List ℕ) → PartlySent s from to coins [] left t → IsSent s from to coins t
+all_sent s t from to coins left so =
     let balances = λ (a d : List ℕ). sym (moved_nothing (bytes_eq from a) (bytes_eq to a) (balance t a d)) ∙ so.moves a d in
     record {
       enough = so.had;

@@ -9,7 +9,7 @@ use Rattle.std.specs.FinMap.{FinMap, get, insert, remove, entries, entries_sorte
 use Rattle.std.specs.FinMap.Entries.{find, put, where_key, is_sorted, below_all, by_order, is_sorted-where_key, find-where_key}
 use Rattle.std.proofs.lemmas.List.Sums.{sum_by-cons}
 use Rattle.std.proofs.lemmas.Bool.Decides.{eqb_tells}
-use Rattle.bank_ledger.specs.Steps.{with_record}
+use Rattle.bank_ledger.specs.Amounts.{with_record}
 use Rattle.bank_ledger.proofs.Orders.{equal_of}
 use Rattle.bank_ledger.proofs.Records.{amount_of}
 

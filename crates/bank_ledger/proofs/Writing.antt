@@ -10,8 +10,8 @@ use Rattle.kv_layers.specs.Maps.{changed}
 use Rattle.chain_records.specs.Spelled.{OfSome, OfEach}
 use Rattle.kv_layers.specs.Spelling.{Becomes, Writes}
 use Rattle.bank_ledger.specs.Lawful.{HasLawfulAmounts}
-use Rattle.bank_ledger.specs.Accounts.{balance}
-use Rattle.bank_ledger.specs.Steps.{amount_under, with_less, with_more, taken, given, drained, one_sent, one_burned, CanSend, CanBurn}
+use Rattle.bank_ledger.specs.Amounts.{amount_under, with_amount, with_more}
+use Rattle.bank_ledger.specs.Steps.{with_less, leaving, given, drained, sent_leaving, burned_leaving, CanSend, CanBurn}
 
 module _ {B : Type 0} (S : B → Bytes → Type 0) where
   pub Writes-trans : (a b c : Layers B) (f g : State → State) → Writes Spells S a b f → Writes Spells S b c g → Writes Spells S a c (λ s. g (f s))
@@ -26,42 +26,35 @@ module _ {B : Type 0} (S : B → Bytes → Type 0) where
       let at = writes maps some.state some.stands.1 (rw some.stands.2 some.spelled) in
       record { map = at.0; state = f some.state; stands = (changed maps at.0, at.1, refl); spelled = at.2; holds = step some.state some.holds }
 
-  pub OfSome-only : (T : Bytes → Type 0) (P Q : State → Type 0) → ((s : State) → P s → Q s) → OfSome T P → OfSome T Q
-  OfSome-only T P Q step some = record { map = some.map; state = some.state; stands = some.stands; spelled = some.spelled; holds = step some.state some.holds }
-
-  pub Writes-sent : (a b c : Layers B) (source target : PlainKey) (from to : List ℕ) (coin : Coin) → source ≡ keys.balance from coin.denom → target ≡ keys.balance to coin.denom
-      → Writes Spells S a b (λ s. with_less s source coin.amount) → Writes Spells S b c (λ s. with_more s target coin.amount) → Writes Spells S a c (λ s. one_sent s from to coin)
-  Writes-sent a b c source target from to coin is_source is_target first then =
-      Writes-trans a b c (λ s. taken s from coin) (λ s. given s to coin)
-      (subst (λ (k : PlainKey). Writes Spells S a b (λ s. with_less s k coin.amount)) is_source first)
+  pub Writes-sent : (a b c : Layers B) (source target : PlainKey) (from to : List ℕ) (coin : Coin) (left : ℕ) → source ≡ keys.balance from coin.denom → target ≡ keys.balance to coin.denom
+      → Writes Spells S a b (λ s. with_amount s source left) → Writes Spells S b c (λ s. with_more s target coin.amount) → Writes Spells S a c (λ s. sent_leaving s from to coin left)
+  Writes-sent a b c source target from to coin left is_source is_target first then =
+      Writes-trans a b c (λ s. leaving s from coin left) (λ s. given s to coin)
+      (subst (λ (k : PlainKey). Writes Spells S a b (λ s. with_amount s k left)) is_source first)
       (subst (λ (k : PlainKey). Writes Spells S b c (λ s. with_more s k coin.amount)) is_target then)
 
-  pub Writes-burned : (a b c : Layers B) (source supplied : PlainKey) (from : List ℕ) (coin : Coin) → source ≡ keys.balance from coin.denom → supplied ≡ keys.supply coin.denom
-      → Writes Spells S a b (λ s. with_less s source coin.amount) → Writes Spells S b c (λ s. with_less s supplied coin.amount) → Writes Spells S a c (λ s. one_burned s from coin)
-  Writes-burned a b c source supplied from coin is_source is_supply first then =
-      Writes-trans a b c (λ s. taken s from coin) (λ s. drained s coin)
-      (subst (λ (k : PlainKey). Writes Spells S a b (λ s. with_less s k coin.amount)) is_source first)
+  pub Writes-burned : (a b c : Layers B) (source supplied : PlainKey) (from : List ℕ) (coin : Coin) (left : ℕ) → source ≡ keys.balance from coin.denom → supplied ≡ keys.supply coin.denom
+      → Writes Spells S a b (λ s. with_amount s source left) → Writes Spells S b c (λ s. with_less s supplied coin.amount) → Writes Spells S a c (λ s. burned_leaving s from coin left)
+  Writes-burned a b c source supplied from coin left is_source is_supply first then =
+      Writes-trans a b c (λ s. leaving s from coin left) (λ s. drained s coin)
+      (subst (λ (k : PlainKey). Writes Spells S a b (λ s. with_amount s k left)) is_source first)
       (subst (λ (k : PlainKey). Writes Spells S b c (λ s. with_less s k coin.amount)) is_supply then)
 
   -- ---- what the calls for one coin require
 
-  pub can_take : (T : Bytes → Type 0) (P : State → Type 0) (source : PlainKey) (from : List ℕ) (coin : Coin) → source ≡ keys.balance from coin.denom → ((s : State) → P s → coin.amount ≤ balance s from coin.denom) → OfSome T P
-      → OfSome T (λ s. coin.amount ≤ amount_under s source)
-  can_take T P source from coin is enough some = OfSome-only T P (λ s. coin.amount ≤ amount_under s source) (λ s p. subst (λ (k : PlainKey). coin.amount ≤ amount_under s k) (sym is) (enough s p)) some
+  pub can_give : (a b : Layers B) (source target : PlainKey) (from to : List ℕ) (coin : Coin) (left : ℕ) → source ≡ keys.balance from coin.denom → target ≡ keys.balance to coin.denom
+      → Writes Spells S a b (λ s. with_amount s source left) → OfSome (HasCurrent S a) (CanSend from to coin left) → OfSome (HasCurrent S b) (λ s. amount_under s target + coin.amount < 2 ^ 128)
+  can_give a b source target from to coin left is_source is_target first some =
+      OfSome-written a b (λ s. leaving s from coin left) (CanSend from to coin left) (λ s. amount_under s target + coin.amount < 2 ^ 128)
+      (λ s can. subst (λ (k : PlainKey). amount_under (leaving s from coin left) k + coin.amount < 2 ^ 128) (sym is_target) can)
+      (subst (λ (k : PlainKey). Writes Spells S a b (λ s. with_amount s k left)) is_source first) some
 
-  pub can_give : (a b : Layers B) (source target : PlainKey) (from to : List ℕ) (coin : Coin) → source ≡ keys.balance from coin.denom → target ≡ keys.balance to coin.denom
-      → Writes Spells S a b (λ s. with_less s source coin.amount) → OfSome (HasCurrent S a) (CanSend from to coin) → OfSome (HasCurrent S b) (λ s. amount_under s target + coin.amount < 2 ^ 128)
-  can_give a b source target from to coin is_source is_target first some =
-      OfSome-written a b (λ s. taken s from coin) (CanSend from to coin) (λ s. amount_under s target + coin.amount < 2 ^ 128)
-      (λ s can. subst (λ (k : PlainKey). amount_under (taken s from coin) k + coin.amount < 2 ^ 128) (sym is_target) can.1)
-      (subst (λ (k : PlainKey). Writes Spells S a b (λ s. with_less s k coin.amount)) is_source first) some
-
-  pub can_drain : (a b : Layers B) (source supplied : PlainKey) (from : List ℕ) (coin : Coin) → source ≡ keys.balance from coin.denom → supplied ≡ keys.supply coin.denom
-      → Writes Spells S a b (λ s. with_less s source coin.amount) → OfSome (HasCurrent S a) (CanBurn from coin) → OfSome (HasCurrent S b) (λ s. coin.amount ≤ amount_under s supplied)
-  can_drain a b source supplied from coin is_source is_supplied first some =
-      OfSome-written a b (λ s. taken s from coin) (CanBurn from coin) (λ s. coin.amount ≤ amount_under s supplied)
-      (λ s can. subst (λ (k : PlainKey). coin.amount ≤ amount_under (taken s from coin) k) (sym is_supplied) can.1)
-      (subst (λ (k : PlainKey). Writes Spells S a b (λ s. with_less s k coin.amount)) is_source first) some
+  pub can_drain : (a b : Layers B) (source supplied : PlainKey) (from : List ℕ) (coin : Coin) (left : ℕ) → source ≡ keys.balance from coin.denom → supplied ≡ keys.supply coin.denom
+      → Writes Spells S a b (λ s. with_amount s source left) → OfSome (HasCurrent S a) (CanBurn coin) → OfSome (HasCurrent S b) (λ s. coin.amount ≤ amount_under s supplied)
+  can_drain a b source supplied from coin left is_source is_supply first some =
+      OfSome-written a b (λ s. leaving s from coin left) (CanBurn coin) (λ s. coin.amount ≤ amount_under s supplied)
+      (λ s can. subst (λ (k : PlainKey). coin.amount ≤ amount_under (leaving s from coin left) k) (sym is_supply) can)
+      (subst (λ (k : PlainKey). Writes Spells S a b (λ s. with_amount s k left)) is_source first) some
 
   -- ---- what is reached from the layers that there were
 

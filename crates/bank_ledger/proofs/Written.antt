@@ -13,7 +13,8 @@ use Rattle.chain_records.specs.Keys as keys
 use Rattle.chain_records.specs.Records.{PlainStored, amount, IsRecordOf}
 use Rattle.chain_records.specs.State.{Bytes, Addressed, State, entry_of, Spells, ChangesOnly}
 use Rattle.chain_records.specs.Laws.{SpellsWritten, SpellsRemoved}
-use Rattle.bank_ledger.specs.Steps.{IsAmountKey, with_record, with_amount}
+use Rattle.bank_ledger.specs.Amounts.{with_record, with_amount}
+use Rattle.bank_ledger.specs.Steps.{IsAmountKey}
 use Rattle.bank_ledger.proofs.Orders.{addressed_total, addressed_exact, equal_of}
 use Rattle.bank_ledger.proofs.Records.{record_of, record_of_zero, get_with_record}
 

@@ -7,7 +7,7 @@ use Rattle.chain_records.specs.State.{Bytes, State, Spells}
 use Rattle.chain_records.specs.Changes.{bare}
 use Rattle.bank_ledger.specs.Accounts.{balance, supply}
 use Rattle.bank_ledger.specs.Lawful.{HasLawfulAmounts}
-use Rattle.bank_ledger.specs.Steps.{with_more}
+use Rattle.bank_ledger.specs.Amounts.{with_more}
 
 -- a chain with these facts and nothing else; the first code and the first instance get the number 1
 abbrev pub opening : PlainFacts → State

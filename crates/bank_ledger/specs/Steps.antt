@@ -1,9 +1,9 @@
--- One amount written under its key. An amount of 0 has no record.
-use Rattle.std.specs.Prelude.{ℕ, ◌≡◌, ◌+◌, ◌-◌, ◌<◌, ◌≤◌, ◌^◌, true, List, Option, None, Some, ◌==◌, if◌then◌else◌}
-use Rattle.std.specs.declared.cmp.Ordering.{Ordering}
+-- Not for readers of contracts: it serves the proofs of this crate alone.
+-- Sends and burns coin by coin, and the coins that an address has one after another.
+use Rattle.std.specs.Prelude.{ℕ, ◌≡◌, ◌+◌, ◌-◌, ◌<◌, ◌≤◌, ◌^◌, true, List, map, Option, None, Some}
 use Rattle.std.specs.Ordering.{nat_cmp, is_le, is_lt}
 use Rattle.std.specs.Cmp.Lexicographic.{slice_cmp}
-use Rattle.std.specs.FinMap.{FinMap, get, insert, remove}
+use Rattle.std.specs.FinMap.{get}
 use Rattle.std.specs.Global.{Vec}
 use Rattle.coin_amounts.specs.declared.coin.Coin as coin_type
 use Rattle.coin_amounts.specs.Plain.{Coin, coin_view}
@@ -12,7 +12,9 @@ use Rattle.chain_records.specs.Keys.{PlainKey, IsKey, key_bytes, IsKeyOf}
 use Rattle.chain_records.specs.Keys as keys
 use Rattle.chain_records.specs.Records.{amount, IsRecordUnder}
 use Rattle.chain_records.specs.State.{State}
+use Rattle.bank_ledger.specs.Balances.{Balances}
 use Rattle.bank_ledger.specs.Accounts.{balance, supply}
+use Rattle.bank_ledger.specs.Amounts.{amount_under, with_amount, with_more}
 
 -- a key of a balance or of a supply
 abbrev pub IsAmountKey : PlainKey → Type 0
@@ -20,50 +22,44 @@ IsAmountKey (keys.balance addr denom) = IsKey (keys.balance addr denom)
 IsAmountKey (keys.supply denom) = IsKey (keys.supply denom)
 IsAmountKey key = ⊥
 
-abbrev pub amount_under : State → PlainKey → ℕ
-amount_under s (keys.balance addr denom) = balance s addr denom
-amount_under s (keys.supply denom) = supply s denom
-amount_under s key = 0
-
-abbrev pub with_record : {K : Type 0} {R : K → K → Ordering} → FinMap R ℕ → K → ℕ → FinMap R ℕ
-with_record map key n = if n == 0 then remove map key else insert map key n
-
-abbrev pub with_amount : State → PlainKey → ℕ → State
-with_amount s (keys.balance addr denom) n = record s { balances = with_record s.balances (addr, denom) n }
-with_amount s (keys.supply denom) n = record s { supplies = with_record s.supplies denom n }
-with_amount s key n = s
-
 abbrev pub with_less : State → PlainKey → ℕ → State
 with_less s key n = with_amount s key (amount_under s key - n)
 
-abbrev pub with_more : State → PlainKey → ℕ → State
-with_more s key n = with_amount s key (amount_under s key + n)
+-- ---- coin by coin
 
--- an account has less by a coin
-abbrev pub taken : State → List ℕ → Coin → State
-taken s from coin = with_less s (keys.balance from coin.denom) coin.amount
+-- what an account has of a coin's denom without the coin
+abbrev pub left_after : Balances → List ℕ → Coin → ℕ
+left_after balances from coin = balances from coin.denom - coin.amount
+
+-- the same for each of some coins
+abbrev pub amounts_left : Balances → List ℕ → List Coin → List ℕ
+amounts_left balances from coins = map (left_after balances from) coins
+
+-- an account has this much left of a coin's denom
+abbrev pub leaving : State → List ℕ → Coin → ℕ → State
+leaving s from coin left = with_amount s (keys.balance from coin.denom) left
 
 -- an account has more by a coin
 abbrev pub given : State → List ℕ → Coin → State
 given s to coin = with_more s (keys.balance to coin.denom) coin.amount
 
-abbrev pub one_sent : State → List ℕ → List ℕ → Coin → State
-one_sent s from to coin = given (taken s from coin) to coin
-
 -- the supply is lower by a coin
 abbrev pub drained : State → Coin → State
 drained s coin = with_less s (keys.supply coin.denom) coin.amount
 
-abbrev pub one_burned : State → List ℕ → Coin → State
-one_burned s from coin = drained (taken s from coin) coin
+abbrev pub sent_leaving : State → List ℕ → List ℕ → Coin → ℕ → State
+sent_leaving s from to coin left = given (leaving s from coin left) to coin
 
--- the account has the coin, and the other has room for it then
-abbrev pub CanSend : List ℕ → List ℕ → Coin → State → Type 0
-CanSend from to coin s = (coin.amount ≤ balance s from coin.denom) × (balance (taken s from coin) to coin.denom + coin.amount < 2 ^ 128)
+abbrev pub burned_leaving : State → List ℕ → Coin → ℕ → State
+burned_leaving s from coin left = drained (leaving s from coin left) coin
 
--- the account and the supply have the coin
-abbrev pub CanBurn : List ℕ → Coin → State → Type 0
-CanBurn from coin s = (coin.amount ≤ balance s from coin.denom) × (coin.amount ≤ supply s coin.denom)
+-- the other account has room for the coin, where the one has this much left
+abbrev pub CanSend : List ℕ → List ℕ → Coin → ℕ → State → Type 0
+CanSend from to coin left s = balance (leaving s from coin left) to coin.denom + coin.amount < 2 ^ 128
+
+-- the supply has the coin
+abbrev pub CanBurn : Coin → State → Type 0
+CanBurn coin s = coin.amount ≤ supply s coin.denom
 
 -- ---- what an address has, coin by coin
 

@@ -7,7 +7,8 @@ ghost use Rattle.kv_layers.specs.Layers.{depth, HasCurrent};
 ghost use Rattle.chain_records.specs.Spelled.{OfSome, OfEach, HasTyped};
 ghost use Rattle.kv_layers.specs.Spelling.{Writes};
 ghost use Rattle.chain_records.specs.State.{Spells};
-ghost use Rattle.bank_ledger.specs.Steps.{IsAmountKey, amount_under, with_amount, with_less, with_more};
+ghost use Rattle.bank_ledger.specs.Amounts.{amount_under, with_amount, with_more};
+ghost use Rattle.bank_ledger.specs.Steps.{IsAmountKey, with_less};
 
 use chain_records::{
     Key, RecordFault, Stored, bytes_tell_records, key_bytes, maps_give_records, one_record_changes,
@@ -57,7 +58,7 @@ fn amount_in(stored: Stored) -> u128
 }
 
 /// Writes an amount under a key, or removes the key where the amount is 0.
-fn set_amount<B: Base>(
+pub(crate) fn set_amount<B: Base>(
     alloc: Global,
     layers: &mut Layers<B>,
     key: &Key,

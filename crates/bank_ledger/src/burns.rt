@@ -1,4 +1,4 @@
-ghost use Rattle.std.specs.Prelude.{◌≡◌, ◌≤◌, OnOk, IfErr};
+ghost use Rattle.std.specs.Prelude.{◌≡◌, OnOk, IfErr};
 ghost use Rattle.coin_amounts.specs.Plain.{coin_view};
 ghost use Rattle.coin_amounts.specs.Coins.{coins_view};
 ghost use Rattle.kv_layers.specs.Layers.{depth, HasCurrent};
@@ -10,11 +10,11 @@ ghost use Rattle.bank_ledger.specs.Lawful.{HasLawful, HasLawfulAmounts};
 ghost use Rattle.bank_ledger.specs.Balances.{shortfall};
 ghost use Rattle.bank_ledger.specs.Accounts.{balance};
 ghost use Rattle.bank_ledger.specs.Effects.{IsBurned, IsStop, Leaves, UnlessNoMemory};
-ghost use Rattle.bank_ledger.specs.Steps.{one_burned, CanBurn};
+ghost use Rattle.bank_ledger.specs.Steps.{burned_leaving, CanBurn};
 
-use crate::amounts::lower;
+use crate::amounts::{lower, set_amount};
 use crate::keys::{balance_key, supply_key};
-use crate::shortfall::check;
+use crate::shortfall::amounts_left;
 use crate::stop::BankStop;
 use coin_amounts::{Coin, Coins};
 use kv_layers::{Base, Layers};
@@ -39,29 +39,29 @@ pub fn burn<B: Base>(
     ensures unchanged { IfErr result (Leaves B.stands_for layers.old layers.new) }
     ensures depth { depth layers.new ≡ depth layers.old }
 {
-    check(alloc, &*layers, from, coins)?;
-    for coin in &coins.list {
-        burn_coin(alloc, layers, from, coin)?;
+    let left = amounts_left(alloc, &*layers, from, coins)?;
+    for (place, coin) in coins.list.iter().enumerate() {
+        burn_coin(alloc, layers, from, coin, left[place])?;
     }
     Ok(())
 }
 
-/// Burns one coin, of which there is enough.
+/// Burns one coin, and leaves the address this much of its denom.
 fn burn_coin<B: Base>(
     alloc: Global,
     layers: &mut Layers<B>,
     from: &[u8],
     coin: &Coin,
+    left: u128,
 ) -> Result<(), AllocError>
     requires from { IsAddress from.now }
-    requires can { OfSome (HasCurrent B.stands_for layers.old)
-        (CanBurn from.now (coin_view coin.now)) }
+    requires can { OfSome (HasCurrent B.stands_for layers.old) (CanBurn (coin_view coin.now)) }
     ensures ok { OnOk result (Writes Spells B.stands_for layers.old layers.new
-        (λ s. one_burned s from.now (coin_view coin.now))) }
+        (λ s. burned_leaving s from.now (coin_view coin.now) left)) }
     ensures depth { depth layers.new ≡ depth layers.old }
 {
     let source = balance_key(alloc, from, coin.denom.as_str())?;
-    lower(alloc, layers, &source, coin.amount)?;
+    set_amount(alloc, layers, &source, left)?;
     let supply = supply_key(alloc, coin.denom.as_str())?;
     lower(alloc, layers, &supply, coin.amount)?;
     Ok(())

@@ -8,7 +8,8 @@ ghost use Rattle.chain_records.specs.State.{State, Spells};
 ghost use Rattle.bank_ledger.specs.Accounts.{supply};
 ghost use Rattle.bank_ledger.specs.Lawful.{HasLawfulAmounts};
 ghost use Rattle.bank_ledger.specs.Minted.{opening, IsMinted, HasLawfulRecords};
-ghost use Rattle.bank_ledger.specs.Steps.{IsAmountKey, with_amount};
+ghost use Rattle.bank_ledger.specs.Amounts.{with_amount};
+ghost use Rattle.bank_ledger.specs.Steps.{IsAmountKey};
 
 use crate::keys::{balance_key, supply_key};
 use crate::readers::{balance, supply};

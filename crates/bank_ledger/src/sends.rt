@@ -1,4 +1,4 @@
-ghost use Rattle.std.specs.Prelude.{◌≡◌, ◌≤◌, OnOk, IfErr};
+ghost use Rattle.std.specs.Prelude.{◌≡◌, OnOk, IfErr};
 ghost use Rattle.coin_amounts.specs.Plain.{coin_view};
 ghost use Rattle.coin_amounts.specs.Coins.{coins_view};
 ghost use Rattle.kv_layers.specs.Layers.{depth, HasCurrent};
@@ -10,11 +10,11 @@ ghost use Rattle.bank_ledger.specs.Lawful.{HasLawful, HasLawfulAmounts};
 ghost use Rattle.bank_ledger.specs.Balances.{shortfall};
 ghost use Rattle.bank_ledger.specs.Accounts.{balance};
 ghost use Rattle.bank_ledger.specs.Effects.{IsSent, IsStop, Leaves, UnlessNoMemory};
-ghost use Rattle.bank_ledger.specs.Steps.{one_sent, CanSend};
+ghost use Rattle.bank_ledger.specs.Steps.{sent_leaving, CanSend};
 
-use crate::amounts::{lower, raise};
+use crate::amounts::{raise, set_amount};
 use crate::keys::balance_key;
-use crate::shortfall::check;
+use crate::shortfall::amounts_left;
 use crate::stop::BankStop;
 use coin_amounts::{Coin, Coins};
 use kv_layers::{Base, Layers};
@@ -41,31 +41,33 @@ pub fn send<B: Base>(
     ensures unchanged { IfErr result (Leaves B.stands_for layers.old layers.new) }
     ensures depth { depth layers.new ≡ depth layers.old }
 {
-    check(alloc, &*layers, from, coins)?;
-    for coin in &coins.list {
-        move_coin(alloc, layers, from, to, coin)?;
+    let left = amounts_left(alloc, &*layers, from, coins)?;
+    for (place, coin) in coins.list.iter().enumerate() {
+        move_coin(alloc, layers, from, to, coin, left[place])?;
     }
     Ok(())
 }
 
-/// Moves one coin, of which there is enough.
+/// Moves one coin, and leaves the sender this much of its denom. What the receiver has is read after that
+/// is written, since the two may be the same.
 fn move_coin<B: Base>(
     alloc: Global,
     layers: &mut Layers<B>,
     from: &[u8],
     to: &[u8],
     coin: &Coin,
+    left: u128,
 ) -> Result<(), AllocError>
     requires from { IsAddress from.now }
     requires to { IsAddress to.now }
     requires can { OfSome (HasCurrent B.stands_for layers.old)
-        (CanSend from.now to.now (coin_view coin.now)) }
+        (CanSend from.now to.now (coin_view coin.now) left) }
     ensures ok { OnOk result (Writes Spells B.stands_for layers.old layers.new
-        (λ s. one_sent s from.now to.now (coin_view coin.now))) }
+        (λ s. sent_leaving s from.now to.now (coin_view coin.now) left)) }
     ensures depth { depth layers.new ≡ depth layers.old }
 {
     let source = balance_key(alloc, from, coin.denom.as_str())?;
-    lower(alloc, layers, &source, coin.amount)?;
+    set_amount(alloc, layers, &source, left)?;
     let target = balance_key(alloc, to, coin.denom.as_str())?;
     raise(alloc, layers, &target, coin.amount)?;
     Ok(())

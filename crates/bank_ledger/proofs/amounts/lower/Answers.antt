@@ -1,7 +1,7 @@
 use Rattle.std.proofs.Common.{◌≡◌, ℕ, ◌-◌, refl, subst}
 use Rattle.chain_records.specs.Keys.{plain_key}
 use Rattle.chain_records.specs.State.{Spells}
-use Rattle.bank_ledger.specs.Steps.{amount_under, with_amount}
+use Rattle.bank_ledger.specs.Amounts.{amount_under, with_amount}
 use Rattle.bank_ledger.proofs.amounts.lower.Goals as goal
 
 pub returns-clause-ok : goal.returns-clause-ok

@@ -11,12 +11,13 @@ use Rattle.bank_ledger.specs.Lawful.{HasLawfulAmounts}
 use Rattle.bank_ledger.proofs.Burning.{PartlyBurned}
 use Rattle.bank_ledger.proofs.burns.burn.Given as goal
 
-abbrev pub invariant-loop-coin : goal.invariant-loop-coin
-invariant-loop-coin g l =
-    let rest = map coin_view (drop l.coin-index l.coins.list.items) in
+abbrev pub invariant-loop-place : goal.invariant-loop-place
+invariant-loop-place g l =
+    let rest = map coin_view (drop l.place l.fn.coins.list.items) in
+    let left = drop l.place l.left.items in
     record {
       rising : IsRising rest;
       positive : AllByRecursion (λ (coin : Coin). 0 < coin.amount) rest;
       depth : depth l.layers ≡ depth l.fn.layers;
-      burned : Becomes Spells HasLawfulAmounts g.B.Base.stands_for l.fn.layers l.layers (λ (s t : State). PartlyBurned s l.fn.from (coins_view l.fn.coins) rest t);
+      burned : Becomes Spells HasLawfulAmounts g.B.Base.stands_for l.fn.layers l.layers (λ (s t : State). PartlyBurned s l.fn.from (coins_view l.fn.coins) rest left t);
     }

@@ -1,7 +1,7 @@
 use Rattle.std.proofs.Common.{sym, subst, arith}
 use Rattle.chain_records.specs.Keys.{plain_key}
 use Rattle.chain_records.specs.State.{Bytes, Spells}
-use Rattle.bank_ledger.specs.Steps.{with_amount}
+use Rattle.bank_ledger.specs.Amounts.{with_amount}
 use Rattle.bank_ledger.proofs.Written.{spells_written}
 use Rattle.bank_ledger.proofs.minting.put_amount.Goals as goal
 
