@@ -2,7 +2,6 @@
 #![tactic(auto)]
 
 mod gas;
-mod kernel;
 mod machines;
 mod memory;
 mod modules;
@@ -12,6 +11,7 @@ mod snapshots;
 mod state;
 
 use anyhow::Result;
+use bench_words::asked;
 use std::env::{self, Env};
 use std::process::ExitCode;
 
@@ -22,7 +22,7 @@ const USAGE_STATUS: u8 = 2;
 /// Does what the words after the program's name say, and prints the checksum or the usage line.
 fn answer(rt: &HostRuntime) -> Result<ExitCode> {
     let words = env::args(rt)?.skip(1).collect::<Vec<String>>(rt.alloc())?;
-    let Some((kernel, count)) = kernel::asked(&words) else {
+    let Some((kernel, count)) = asked(&words) else {
         println!(rt; "{USAGE}")?;
         return Ok(ExitCode::from(USAGE_STATUS));
     };

@@ -1,8 +1,8 @@
 ghost use Rattle.linear_memory.specs.Numbers.{IsWidth};
 
-use crate::kernel::Kernel;
 use crate::{gas, machines, memory, modules, numbers, snapshots, state};
 use anyhow::{Result, anyhow};
+use bench_words::Kernel;
 use std::alloc::{AllocError, Global};
 use std::io::Read;
 use std::sync::Arc;

@@ -1,5 +1,5 @@
 ghost use Rattle.std.specs.Prelude.{◌≡◌, ℕ, Some, IfSome, map, string_bytes};
-ghost use Rattle.bench_kernels.specs.Words.{name_of, IsNumber, Asks};
+ghost use Rattle.bench_words.specs.Words.{name_of, IsNumber, Asks};
 
 /// A piece of the node's work.
 #[derive(Clone, Copy, Debug, PartialEq, Eq)]

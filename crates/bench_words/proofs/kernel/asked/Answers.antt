@@ -1,6 +1,6 @@
 use Rattle.std.proofs.Common.{rules, ◌≡◌, ℕ, map, string_bytes, List, [], ◌∷◌, slice_index_or, sym, ◌∙◌, subst}
-use Rattle.bench_kernels.specs.Words.{name_of, IsNumber}
-use Rattle.bench_kernels.proofs.kernel.asked.Goals as goal
+use Rattle.bench_words.specs.Words.{name_of, IsNumber}
+use Rattle.bench_words.proofs.kernel.asked.Goals as goal
 
 -- the second of two words
 second_word : {W : Type 0} (f : W → List ℕ) (words : List W) (word : W) (x y : List ℕ) → map f words ≡ x ∷ y ∷ [] → word ≡ slice_index_or words 1 word → f word ≡ y

@@ -1,8 +1,8 @@
 -- The words that the program takes: a kernel's name and a count.
 use Rattle.std.specs.Prelude.{◌≡◌, ℕ, ◌<◌, ◌^◌, List, [], ◌∷◌, codes}
 use Rattle.std.specs.Str.Parse.{IsNumeral, digits_value, without_leading_plus}
-use Rattle.bench_kernels.specs.declared.kernel.Kernel.{Kernel}
-use Rattle.bench_kernels.specs.declared.kernel.Kernel.TheVariants as kernels
+use Rattle.bench_words.specs.declared.kernel.Kernel.{Kernel}
+use Rattle.bench_words.specs.declared.kernel.Kernel.TheVariants as kernels
 
 abbrev pub name_of : Kernel → List ℕ
 name_of kernels.BinaryAdd = codes "binary_add"
