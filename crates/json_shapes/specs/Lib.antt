@@ -3,3 +3,4 @@ pub mod Examples
 pub mod Json
 pub mod Sample
 pub mod Shapes
+pub mod Values

@@ -151,7 +151,7 @@ fn each<F: Form>(alloc: Global, items: &Vec<Value>) -> Result<Vec<F>, ShapeStop>
     ensures { Reads (λ list. map F.plain_view list.items) result
         (each F.form 0 (items_view items.now.items)) }
 {
-    let mut list = Vec::with_capacity(alloc, items.len())?;
+    let mut list = Vec::new(alloc);
     for (place, item) in items.iter().enumerate() {
         match F::read(alloc, item) {
             Ok(x) => list.push(x)?,

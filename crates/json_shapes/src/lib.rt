@@ -10,9 +10,12 @@ mod paths;
 #[cfg(test)]
 mod sample;
 mod stop;
+mod taking;
 #[cfg(test)]
 mod tests;
+mod values;
 mod variants;
+mod wrapped;
 
 pub use fields::{
     bytes_at, field, list_at, list_field, nullable_field, optional_field, optional_list, text_at,
@@ -21,6 +24,9 @@ pub use fields::{
 pub use floats::has_float;
 pub use form::{Binary, Form};
 pub use json::{read_json, write_json};
-pub use paths::{stop_for, within, within_place};
+pub use paths::{stop_at, stop_for, within, within_place};
 pub use stop::{JsonStop, ShapeStop, Want};
+pub use taking::{take_list, take_one_field};
+pub use values::binary_value;
 pub use variants::variant;
+pub use wrapped::{Wrapper, wrapped_list};

@@ -5,8 +5,8 @@ ghost use Rattle.json_shapes.specs.Shapes.{field_step, place_step, dotted, Fault
 use crate::stop::{ShapeStop, Want};
 use std::alloc::{AllocError, Global};
 
-/// The stop at a name, where this belongs.
-pub(crate) fn stop_at(alloc: Global, name: &str, want: Want) -> ShapeStop
+/// The stop in the field of this name, where this belongs.
+pub fn stop_at(alloc: Global, name: &str, want: Want) -> ShapeStop
     ensures { Names result (record { path = field_step name.now ∷ []; want = want }) }
 {
     match String::from_str(alloc, name) {

@@ -1,7 +1,8 @@
 use crate::sample::{Act, Order};
 use crate::{
     Form, JsonStop, ShapeStop, bytes_at, field, list_at, list_field, nullable_field,
-    optional_field, optional_list, read_json, text_at, u64_at, variant, write_json,
+    optional_field, optional_list, read_json, take_list, take_one_field, text_at, u64_at, variant,
+    write_json,
 };
 use serde_json::Value;
 use std::alloc::{AllocError, Global};
@@ -188,6 +189,36 @@ fn a_variant_has_one_field(rt: HostRuntime) -> Result<(), Fail> {
         ("variant", "\"b\"", none),
     ];
     expect(&rt, rt.alloc(), cases)
+}
+
+#[test]
+fn a_list_is_taken_out_of_its_field(rt: HostRuntime) -> Result<(), Fail> {
+    let alloc = rt.alloc();
+    let value = read_json(alloc, b"{\"a\":[1,null],\"b\":2}")?;
+    let (list, rest) = take_list(alloc, value, "a")?;
+    assert_eq!(rt; list.len(), 2);
+    let text = write_json(alloc, &rest)?;
+    let wanted = "{\"b\":2}";
+    assert_eq!(rt; text.as_slice(), wanted.as_bytes());
+    let none = take_list(alloc, rest, "b").map(|taken| taken.0.len());
+    assert_eq!(rt; told(alloc, none)?.as_str(), "a list belongs at `b`");
+    Ok(())
+}
+
+#[test]
+fn an_only_field_is_taken_out(rt: HostRuntime) -> Result<(), Fail> {
+    for (text, wanted) in [
+        ("{\"b\":[]}", Some(true)),
+        ("{\"b\":[],\"b\":1}", Some(false)),
+        ("{\"b\":[],\"c\":[]}", None),
+        ("{}", None),
+        ("[[]]", None),
+    ] {
+        let taken = take_one_field(read_json(rt.alloc(), text.as_bytes())?);
+        let is_list = taken.map(|named| named.1.as_array().is_some());
+        assert_eq!(rt; is_list, wanted);
+    }
+    Ok(())
 }
 
 #[test]
