@@ -1,0 +1,5 @@
+pub mod Again
+pub mod Numbers
+pub mod Outcomes
+pub mod Varints
+pub mod Whole

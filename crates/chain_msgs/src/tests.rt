@@ -1,0 +1,841 @@
+use crate::{
+    Answer, Env, Event, FailKind, Failure, Reply, ReplyResult, ResponseStop, SystemError, TxResult,
+    coins_at, list_value, read_query_result, read_response, read_tx_msg, reply_bytes, write_answer,
+    write_env, write_info, write_reply,
+};
+use coin_amounts::{Coins, RawCoin, read_coins};
+use json_shapes::{read_json, write_json};
+use std::alloc::{AllocError, Global};
+use std::fmt::{Debug, Display};
+use std::process::Abort;
+use std::test::Fail;
+
+/// What was read, or why nothing was.
+fn told<T: Debug + Drop, E: Display + Drop>(
+    alloc: Global,
+    read: Result<T, E>,
+) -> Result<String, AllocError> {
+    match read {
+        Ok(x) => format!(in alloc; "{x:?}"),
+        Err(stop) => format!(in alloc; "{stop}"),
+    }
+}
+
+/// What the reader of this name tells of a text.
+fn read_by(alloc: Global, reader: &str, text: &str) -> Result<String, Fail> {
+    match reader {
+        "message" => {
+            let value = read_json(alloc, text.as_bytes())?;
+            Ok(told(alloc, read_tx_msg(alloc, &value))?)
+        }
+        "response" => Ok(told(alloc, read_response(alloc, text.as_bytes()))?),
+        _ => Ok(told(alloc, read_query_result(alloc, text.as_bytes()))?),
+    }
+}
+
+/// Reads each text by its reader.
+fn expect(
+    rt: &impl Abort,
+    alloc: Global,
+    reader: &str,
+    cases: &[(&str, &str)],
+) -> Result<(), Fail> {
+    for (text, wanted) in cases {
+        assert_eq!(rt; read_by(alloc, reader, text)?.as_str(), *wanted);
+    }
+    Ok(())
+}
+
+#[test]
+fn messages_are_read(rt: HostRuntime) -> Result<(), Fail> {
+    let cases: &[(&str, &str)] = &[
+        (
+            r#"{"bank":{"send":{"amount":[{"amount":"5","denom":"u"}],"to_address":"a"}}}"#,
+            r#"Cosmos(BankSend { to: "a", amount: [RawCoin { denom: "u", amount: "5" }] })"#,
+        ),
+        (
+            r#"{"bank":{"burn":{"amount":[]}}}"#,
+            "Cosmos(BankBurn { amount: [] })",
+        ),
+        (
+            r#"{"wasm":{"execute":{"contract_addr":"c","funds":[],"msg":"AQI="}}}"#,
+            r#"Cosmos(Execute { contract: "c", msg: [1, 2], funds: [] })"#,
+        ),
+        (
+            r#"{"wasm":{"instantiate":{"admin":null,"code_id":7,"funds":[],"label":"l","msg":""}}}"#,
+            r#"Cosmos(Instantiate { admin: None, code_id: 7, msg: [], funds: [], label: "l", salt: None })"#,
+        ),
+        (
+            r#"{"wasm":{"instantiate2":{"admin":"a","code_id":7,"funds":[],"label":"l","msg":"","salt":"AQ=="}}}"#,
+            r#"Cosmos(Instantiate { admin: Some("a"), code_id: 7, msg: [], funds: [], label: "l", salt: Some([1]) })"#,
+        ),
+        (
+            r#"{"wasm":{"migrate":{"contract_addr":"c","msg":"AQ==","new_code_id":8}}}"#,
+            r#"Cosmos(Migrate { contract: "c", new_code_id: 8, msg: [1] })"#,
+        ),
+        (
+            r#"{"wasm":{"update_admin":{"admin":"a","contract_addr":"c"}}}"#,
+            r#"Cosmos(UpdateAdmin { contract: "c", admin: "a" })"#,
+        ),
+        (
+            r#"{"wasm":{"clear_admin":{"contract_addr":"c"}}}"#,
+            r#"Cosmos(ClearAdmin { contract: "c" })"#,
+        ),
+        (
+            r#"{"store_code":{"code":"AQ=="}}"#,
+            "StoreCode { code: [1], allow: None }",
+        ),
+        (
+            r#"{"store_code":{"allow":null,"code":"AQ=="}}"#,
+            "StoreCode { code: [1], allow: None }",
+        ),
+        (
+            r#"{"store_code":{"allow":[],"code":"AQ=="}}"#,
+            "StoreCode { code: [1], allow: Some([]) }",
+        ),
+        (
+            r#"{"store_code":{"allow":["a","b"],"code":"AQ=="}}"#,
+            r#"StoreCode { code: [1], allow: Some(["a", "b"]) }"#,
+        ),
+        (
+            r#"{"pin_code":{"ids":[18446744073709551615,0]}}"#,
+            "Pin { ids: [18446744073709551615, 0] }",
+        ),
+        (r#"{"unpin_code":{"ids":[1]}}"#, "Unpin { ids: [1] }"),
+        (
+            r#"{"sudo":{"contract":"c","msg":"AQ=="}}"#,
+            r#"Sudo { contract: "c", msg: [1] }"#,
+        ),
+        // Of a repeated field the last one counts.
+        (
+            r#"{"sudo":{"contract":1,"msg":"","contract":"d"}}"#,
+            r#"Sudo { contract: "d", msg: [] }"#,
+        ),
+    ];
+    expect(&rt, rt.alloc(), "message", cases)
+}
+
+#[test]
+fn other_messages_have_a_kind_and_the_rest_no_form(rt: HostRuntime) -> Result<(), Fail> {
+    let none = "an object of one field belongs at ``";
+    let cases: &[(&str, &str)] = &[
+        (
+            r#"{"staking":{"delegate":1}}"#,
+            r#"Cosmos(Other { kind: "staking" })"#,
+        ),
+        (r#"{"":null}"#, r#"Cosmos(Other { kind: "" })"#),
+        (
+            r#"{"bank":{"mint":null}}"#,
+            r#"Cosmos(Other { kind: "bank.mint" })"#,
+        ),
+        (
+            r#"{"wasm":{"pin":[]}}"#,
+            r#"Cosmos(Other { kind: "wasm.pin" })"#,
+        ),
+        // Of what stands under an unknown name nothing is read.
+        (
+            r#"{"gov":{"vote":1,"veto":2}}"#,
+            r#"Cosmos(Other { kind: "gov" })"#,
+        ),
+        (r#"{"bank":{}}"#, "an object of one field belongs at `bank`"),
+        (
+            r#"{"wasm":{"migrate":{},"execute":{}}}"#,
+            "an object of one field belongs at `wasm`",
+        ),
+        (
+            r#"{"wasm":null}"#,
+            "an object of one field belongs at `wasm`",
+        ),
+        ("{}", none),
+        (r#"{"bank":{},"wasm":{}}"#, none),
+        (r#"["bank"]"#, none),
+        ("null", none),
+    ];
+    expect(&rt, rt.alloc(), "message", cases)
+}
+
+/// How a field may be empty.
+#[derive(Clone, Copy, PartialEq, Eq)]
+enum May {
+    HasToBe,
+    BeNull,
+    BeMissing,
+}
+
+/// A field of a form: its name, a right value, what belongs there, and how it may be empty.
+type Field<'a> = (&'a str, &'a str, &'a str, May);
+
+/// Where a form stands: its reader, what stands before and behind its object, and the path to that.
+type Place<'a> = (&'a str, &'a str, &'a str, &'a str);
+
+/// The form's text with this at one field, or nothing. Those before it are right; those behind it too, or missing.
+fn text_with(
+    alloc: Global,
+    place: Place,
+    fields: &[Field],
+    at: usize,
+    given: &str,
+    whole: bool,
+) -> Result<String, AllocError> {
+    let mut text = String::from_str(alloc, place.1)?;
+    text.push_str(r#"{"unknown":[1]"#)?;
+    for (count, field) in fields.iter().enumerate() {
+        let mut value = field.1;
+        if count == at {
+            value = given;
+        } else if count > at && !whole {
+            value = "";
+        }
+        if !value.is_empty() {
+            text.push_str(",\"")?;
+            text.push_str(field.0)?;
+            text.push_str("\":")?;
+            text.push_str(value)?;
+        }
+    }
+    text.push_str("}")?;
+    text.push_str(place.2)?;
+    Ok(text)
+}
+
+/// The text is read, or this is told at the field.
+fn expect_field(
+    rt: &impl Abort,
+    alloc: Global,
+    place: Place,
+    field: Field,
+    text: &str,
+    fine: bool,
+) -> Result<(), Fail> {
+    let mut stop = String::from_str(alloc, field.2)?;
+    for part in [" belongs at `", place.3, field.0, "`"] {
+        stop.push_str(part)?;
+    }
+    let read = read_by(alloc, place.0, text)?;
+    assert_eq!(rt;
+        read.as_str() == stop.as_str(),
+        !fine,
+        "{text} gives {read}"
+    );
+    assert_eq!(rt;
+        read.as_str().contains(" belongs at "),
+        !fine,
+        "{text} gives {read}"
+    );
+    Ok(())
+}
+
+/// Each field missing, null and of another type, with those behind it missing, is told at its path, or may be so.
+fn expect_fields(
+    rt: &impl Abort,
+    alloc: Global,
+    place: Place,
+    fields: &[Field],
+) -> Result<(), Fail> {
+    for (at, field) in fields.iter().enumerate() {
+        let missing = field.3 == May::BeMissing;
+        let null = missing || field.3 == May::BeNull;
+        for (given, fine) in [
+            (field.1, true),
+            ("", missing),
+            ("null", null),
+            ("{}", false),
+        ] {
+            let text = text_with(alloc, place, fields, at, given, fine)?;
+            expect_field(rt, alloc, place, *field, text.as_str(), fine)?;
+        }
+    }
+    Ok(())
+}
+
+const TEXT: &str = "a text";
+
+const NUMBER: &str = "an integer from 0 to 2^64 - 1";
+
+const LIST: &str = "a list";
+
+const BINARY: &str = "a text in base64";
+
+const VARIANT: &str = "an object of one field";
+
+#[test]
+fn fields_of_messages_have_to_be_right(rt: HostRuntime) -> Result<(), Fail> {
+    let alloc = rt.alloc();
+    expect_fields(
+        &rt,
+        alloc,
+        ("message", r#"{"bank":{"send":"#, "}}", "bank.send."),
+        &[
+            ("to_address", "\"a\"", TEXT, May::HasToBe),
+            ("amount", "[]", LIST, May::HasToBe),
+        ],
+    )?;
+    expect_fields(
+        &rt,
+        alloc,
+        (
+            "message",
+            r#"{"bank":{"burn":{"amount":[{"denom":"u","amount":""},"#,
+            "]}}}",
+            "bank.burn.amount.1.",
+        ),
+        &[
+            ("denom", "\"a\"", TEXT, May::HasToBe),
+            ("amount", "\"1\"", TEXT, May::HasToBe),
+        ],
+    )?;
+    expect_fields(
+        &rt,
+        alloc,
+        ("message", r#"{"wasm":{"execute":"#, "}}", "wasm.execute."),
+        &[
+            ("contract_addr", "\"a\"", TEXT, May::HasToBe),
+            ("msg", "\"\"", BINARY, May::HasToBe),
+            ("funds", "[]", LIST, May::HasToBe),
+        ],
+    )?;
+    expect_fields(
+        &rt,
+        alloc,
+        (
+            "message",
+            r#"{"wasm":{"instantiate2":"#,
+            "}}",
+            "wasm.instantiate2.",
+        ),
+        &[
+            ("admin", "\"a\"", TEXT, May::BeNull),
+            ("code_id", "1", NUMBER, May::HasToBe),
+            ("msg", "\"\"", BINARY, May::HasToBe),
+            ("funds", "[]", LIST, May::HasToBe),
+            ("label", "\"\"", TEXT, May::HasToBe),
+            ("salt", "\"\"", BINARY, May::HasToBe),
+        ],
+    )?;
+    expect_fields(
+        &rt,
+        alloc,
+        (
+            "message",
+            r#"{"wasm":{"instantiate":"#,
+            "}}",
+            "wasm.instantiate.",
+        ),
+        &[
+            ("admin", "\"a\"", TEXT, May::BeNull),
+            ("code_id", "1", NUMBER, May::HasToBe),
+            ("msg", "\"\"", BINARY, May::HasToBe),
+            ("funds", "[]", LIST, May::HasToBe),
+            ("label", "\"\"", TEXT, May::HasToBe),
+        ],
+    )?;
+    expect_fields(
+        &rt,
+        alloc,
+        ("message", r#"{"wasm":{"migrate":"#, "}}", "wasm.migrate."),
+        &[
+            ("contract_addr", "\"a\"", TEXT, May::HasToBe),
+            ("new_code_id", "1", NUMBER, May::HasToBe),
+            ("msg", "\"\"", BINARY, May::HasToBe),
+        ],
+    )?;
+    expect_fields(
+        &rt,
+        alloc,
+        (
+            "message",
+            r#"{"wasm":{"update_admin":"#,
+            "}}",
+            "wasm.update_admin.",
+        ),
+        &[
+            ("contract_addr", "\"a\"", TEXT, May::HasToBe),
+            ("admin", "\"a\"", TEXT, May::HasToBe),
+        ],
+    )?;
+    expect_fields(
+        &rt,
+        alloc,
+        (
+            "message",
+            r#"{"wasm":{"clear_admin":"#,
+            "}}",
+            "wasm.clear_admin.",
+        ),
+        &[("contract_addr", "\"a\"", TEXT, May::HasToBe)],
+    )?;
+    expect_fields(
+        &rt,
+        alloc,
+        ("message", r#"{"store_code":"#, "}", "store_code."),
+        &[
+            ("allow", "[]", LIST, May::BeMissing),
+            ("code", "\"\"", BINARY, May::HasToBe),
+        ],
+    )?;
+    expect_fields(
+        &rt,
+        alloc,
+        ("message", r#"{"unpin_code":"#, "}", "unpin_code."),
+        &[("ids", "[1]", LIST, May::HasToBe)],
+    )?;
+    expect_fields(
+        &rt,
+        alloc,
+        ("message", r#"{"sudo":"#, "}", "sudo."),
+        &[
+            ("contract", "\"a\"", TEXT, May::HasToBe),
+            ("msg", "\"\"", BINARY, May::HasToBe),
+        ],
+    )?;
+    Ok(())
+}
+
+#[test]
+fn fields_of_responses_have_to_be_right(rt: HostRuntime) -> Result<(), Fail> {
+    let alloc = rt.alloc();
+    expect_fields(
+        &rt,
+        alloc,
+        ("response", r#"{"ok":"#, "}", "ok."),
+        &[
+            ("messages", "[]", LIST, May::BeMissing),
+            ("attributes", "[]", LIST, May::BeMissing),
+            ("events", "[]", LIST, May::BeMissing),
+            ("data", "\"\"", BINARY, May::BeMissing),
+        ],
+    )?;
+    expect_fields(
+        &rt,
+        alloc,
+        (
+            "response",
+            r#"{"ok":{"messages":["#,
+            "]}}",
+            "ok.messages.0.",
+        ),
+        &[
+            ("id", "1", NUMBER, May::HasToBe),
+            ("msg", r#"{"gov":1}"#, VARIANT, May::HasToBe),
+            ("gas_limit", "1", NUMBER, May::BeMissing),
+            ("reply_on", "\"never\"", TEXT, May::HasToBe),
+        ],
+    )?;
+    expect_fields(
+        &rt,
+        alloc,
+        (
+            "response",
+            r#"{"ok":{"attributes":["#,
+            "]}}",
+            "ok.attributes.0.",
+        ),
+        &[
+            ("key", "\"a\"", TEXT, May::HasToBe),
+            ("value", "\"\"", TEXT, May::HasToBe),
+        ],
+    )?;
+    expect_fields(
+        &rt,
+        alloc,
+        ("response", r#"{"ok":{"events":["#, "]}}", "ok.events.0."),
+        &[
+            ("type", "\"ab\"", TEXT, May::HasToBe),
+            ("attributes", "[]", LIST, May::HasToBe),
+        ],
+    )?;
+    Ok(())
+}
+
+#[test]
+fn one_to_64_ids_are_pinned(rt: HostRuntime) -> Result<(), Fail> {
+    let alloc = rt.alloc();
+    for (count, fine) in [(0usize, false), (1, true), (64, true), (65, false)] {
+        let mut text = String::from_str(alloc, r#"{"pin_code":{"ids":["#)?;
+        for place in 0..count {
+            if place > 0 {
+                text.push_str(",")?;
+            }
+            text.push_str("9")?;
+        }
+        text.push_str("]}}")?;
+        let read = read_by(alloc, "message", text.as_str())?;
+        let stop = "a list belongs at `pin_code.ids`";
+        assert_eq!(rt; read.as_str() != stop, fine);
+        assert_eq!(rt; read.as_str().starts_with("Pin { ids: [9"), fine);
+    }
+    Ok(())
+}
+
+#[test]
+fn numbers_and_bytes_are_looked_at(rt: HostRuntime) -> Result<(), Fail> {
+    let number = "an integer from 0 to 2^64 - 1 belongs at `pin_code.ids.1`";
+    let binary = "a text in base64 belongs at `sudo.msg`";
+    let cases: &[(&str, &str)] = &[
+        (r#"{"pin_code":{"ids":[1,-1]}}"#, number),
+        (r#"{"pin_code":{"ids":[1,"1"]}}"#, number),
+        (r#"{"pin_code":{"ids":[1,null]}}"#, number),
+        (r#"{"sudo":{"contract":"c","msg":"AQI"}}"#, binary),
+        (r#"{"sudo":{"contract":"c","msg":"AQJ="}}"#, binary),
+        (r#"{"sudo":{"contract":"c","msg":"AQI=="}}"#, binary),
+        (r#"{"sudo":{"contract":"c","msg":"A_I="}}"#, binary),
+        (
+            r#"{"store_code":{"allow":["a",1],"code":""}}"#,
+            "a text belongs at `store_code.allow.1`",
+        ),
+    ];
+    expect(&rt, rt.alloc(), "message", cases)
+}
+
+#[test]
+fn responses_are_read(rt: HostRuntime) -> Result<(), Fail> {
+    let json = "no JSON of nesting at most 127 with integers of 64 bits";
+    let none = "an object of one field belongs at ``";
+    let cases: &[(&str, &str)] = &[
+        (
+            r#"{"ok":{}}"#,
+            "Ok(Response { messages: [], attributes: [], events: [], out: None })",
+        ),
+        (
+            r#"{"ok":{"messages":null,"attributes":null,"events":null,"data":null}}"#,
+            "Ok(Response { messages: [], attributes: [], events: [], out: None })",
+        ),
+        (
+            r#"{"ok":{"data":"AQ==","messages":[{"id":3,"msg":{"gov":{}},"gas_limit":9,"reply_on":"success"}]}}"#,
+            r#"Ok(Response { messages: [SubMsg { id: 3, msg: Other { kind: "gov" }, gas_limit: Some(9), reply_on: Success }], attributes: [], events: [], out: Some([1]) })"#,
+        ),
+        (r#"{"error":"it broke"}"#, r#"Error("it broke")"#),
+        (r#"{"error":""}"#, r#"Error("")"#),
+        (r#"{"error":null}"#, "a text belongs at `error`"),
+        (
+            r#"{"ok":{"messages":[{"id":1,"msg":{"bank":{"send":{"to_address":"a","amount":[{"denom":"u","amount":"1"},{"amount":"2"}]}}}}]}}"#,
+            "a text belongs at `ok.messages.0.msg.bank.send.amount.1.denom`",
+        ),
+        (
+            r#"{"ok":{"messages":[{"id":1,"msg":{"wasm":[]}}]}}"#,
+            "an object of one field belongs at `ok.messages.0.msg.wasm`",
+        ),
+        (
+            r#"{"ok":{"messages":[{"id":1,"msg":{"gov":1},"reply_on":"sometimes"}]}}"#,
+            "a text belongs at `ok.messages.0.reply_on`",
+        ),
+        (r#"{"Ok":{}}"#, none),
+        (r#"{"ok":{},"error":""}"#, none),
+        ("{}", none),
+        ("[]", none),
+        ("", json),
+        (r#"{"ok":{}"#, json),
+        (r#"{"ok":{"unknown":1.0}}"#, json),
+        (r#"{"ok":{"unknown":18446744073709551616}}"#, json),
+        // A number that a later one of the field replaces doesn't count.
+        (
+            r#"{"ok":{"unknown":1.0,"unknown":1}}"#,
+            "Ok(Response { messages: [], attributes: [], events: [], out: None })",
+        ),
+    ];
+    expect(&rt, rt.alloc(), "response", cases)
+}
+
+#[test]
+fn a_word_says_when_to_reply(rt: HostRuntime) -> Result<(), Fail> {
+    let alloc = rt.alloc();
+    for (word, wanted) in [
+        ("always", "Always"),
+        ("error", "Error"),
+        ("success", "Success"),
+        ("never", "Never"),
+    ] {
+        let mut text = String::from_str(
+            alloc,
+            r#"{"ok":{"messages":[{"id":0,"msg":{"x":0},"reply_on":""#,
+        )?;
+        text.push_str(word)?;
+        text.push_str(r#""}]}}"#)?;
+        let read = read_by(alloc, "response", text.as_str())?;
+        let part = format!(in alloc; "gas_limit: None, reply_on: {wanted} }}")?;
+        assert!(rt; read.as_str().contains(part.as_str()), "{read}");
+    }
+    Ok(())
+}
+
+#[test]
+fn answers_to_queries_are_read(rt: HostRuntime) -> Result<(), Fail> {
+    let cases: &[(&str, &str)] = &[
+        (r#"{"ok":"AQI="}"#, "Ok([1, 2])"),
+        (r#"{"ok":""}"#, "Ok([])"),
+        (r#"{"error":"no"}"#, r#"Error("no")"#),
+        (r#"{"ok":"AQI"}"#, "a text in base64 belongs at `ok`"),
+        (r#"{"ok":null}"#, "a text in base64 belongs at `ok`"),
+        (r#"{"yes":""}"#, "an object of one field belongs at ``"),
+        (
+            "{",
+            "no JSON of nesting at most 127 with integers of 64 bits",
+        ),
+    ];
+    expect(&rt, rt.alloc(), "query", cases)
+}
+
+#[test]
+fn names_that_contracts_may_not_choose_are_found(rt: HostRuntime) -> Result<(), Fail> {
+    for (text, number) in [
+        (r#"{"attributes":[{"key":"k","value":"_"}]}"#, None),
+        (
+            r#"{"attributes":[{"key":"k","value":""},{"key":"","value":""}]}"#,
+            Some(0usize),
+        ),
+        (r#"{"attributes":[{"key":"_k","value":""}]}"#, Some(0)),
+        (
+            r#"{"events":[{"type":"ab","attributes":[{"key":"a_","value":""}]}]}"#,
+            None,
+        ),
+        (r#"{"events":[{"type":"a","attributes":[]}]}"#, Some(1)),
+        (
+            r#"{"events":[{"type":"ab","attributes":[{"key":"a_","value":""}]},{"type":"","attributes":[]}]}"#,
+            Some(2),
+        ),
+        (
+            r#"{"events":[{"type":"ab","attributes":[{"key":"a_","value":""}]},{"type":"ab","attributes":[{"key":"","value":""}]}]}"#,
+            Some(2),
+        ),
+        (
+            r#"{"events":[{"type":"ab","attributes":[{"key":"a_","value":""}]},{"type":"ab","attributes":[{"key":"a_","value":""}]},{"type":"ab","attributes":[{"key":"_","value":""}]},{"type":"","attributes":[]}]}"#,
+            Some(3),
+        ),
+        (
+            r#"{"events":[{"type":"","attributes":[]}],"attributes":[{"key":"","value":""}]}"#,
+            Some(0),
+        ),
+        // Bytes count, not letters.
+        (r#"{"events":[{"type":"é","attributes":[]}]}"#, None),
+    ] {
+        let alloc = rt.alloc();
+        let mut answer = String::from_str(alloc, r#"{"ok":"#)?;
+        answer.push_str(text)?;
+        answer.push_str("}")?;
+        let found = match read_response(alloc, answer.as_bytes()) {
+            Ok(_) => None,
+            Err(ResponseStop::Event(found)) => Some(found),
+            Err(_) => Some(usize::MAX),
+        };
+        assert_eq!(rt; found, number, "{text}");
+    }
+    Ok(())
+}
+
+#[test]
+fn the_form_comes_before_names(rt: HostRuntime) -> Result<(), Fail> {
+    let cases: &[(&str, &str)] = &[(
+        r#"{"ok":{"attributes":[{"key":"","value":""}],"data":1}}"#,
+        "a text in base64 belongs at `ok.data`",
+    )];
+    expect(&rt, rt.alloc(), "response", cases)
+}
+
+/// An event with one attribute.
+fn one_event(alloc: Global) -> Result<Event, Fail> {
+    let mut attributes = Vec::new(alloc);
+    attributes.push(crate::Attribute {
+        key: String::from_str(alloc, "k")?,
+        value: String::from_str(alloc, "v\"")?,
+    })?;
+    Ok(Event {
+        kind: String::from_str(alloc, "ab")?,
+        attributes,
+    })
+}
+
+#[test]
+fn environments_are_written(rt: HostRuntime) -> Result<(), Fail> {
+    let alloc = rt.alloc();
+    for (index, wanted) in [
+        (
+            Some(4294967295u32),
+            r#"{"block":{"chain_id":"t-1","height":7,"time":"18446744073709551615"},"contract":{"address":"c"},"transaction":{"index":4294967295}}"#,
+        ),
+        (
+            None,
+            r#"{"block":{"chain_id":"t-1","height":7,"time":"18446744073709551615"},"contract":{"address":"c"},"transaction":null}"#,
+        ),
+    ] {
+        let env = Env {
+            height: 7,
+            time: u64::MAX,
+            chain_id: String::from_str(alloc, "t-1")?,
+            index,
+            contract: String::from_str(alloc, "c")?,
+        };
+        let text = write_env(alloc, &env)?;
+        assert_eq!(rt; text.as_slice(), wanted.as_bytes());
+    }
+    Ok(())
+}
+
+#[test]
+fn callers_and_funds_are_written(rt: HostRuntime) -> Result<(), Fail> {
+    let alloc = rt.alloc();
+    let text = write_info(alloc, "s", &Coins::new(alloc))?;
+    let wanted = r#"{"funds":[],"sender":"s"}"#;
+    assert_eq!(rt; text.as_slice(), wanted.as_bytes());
+    let mut raws = Vec::new(alloc);
+    for (denom, amount) in [
+        ("utok", "0340282366920938463463374607431768211455"),
+        ("atok", "2"),
+    ] {
+        raws.push(RawCoin {
+            denom: String::from_str(alloc, denom)?,
+            amount: String::from_str(alloc, amount)?,
+        })?;
+    }
+    let coins = read_coins(alloc, &raws)?;
+    let text = write_info(alloc, "s", &coins)?;
+    let wanted =
+        r#"{"funds":[{"amount":"2","denom":"atok"},{"amount":"340282366920938463463374607431768211455","denom":"utok"}],"sender":"s"}"#;
+    assert_eq!(rt; text.as_slice(), wanted.as_bytes());
+    Ok(())
+}
+
+#[test]
+fn replies_are_written(rt: HostRuntime) -> Result<(), Fail> {
+    let alloc = rt.alloc();
+    let mut events = Vec::new(alloc);
+    events.push(one_event(alloc)?)?;
+    let done = Reply {
+        id: 9,
+        result: ReplyResult::Ok {
+            events,
+            out: Some(Vec::from_array(alloc, [1u8, 2])?),
+        },
+    };
+    let text = write_reply(alloc, &done)?;
+    let wanted =
+        r#"{"id":9,"result":{"ok":{"data":"AQI=","events":[{"attributes":[{"key":"k","value":"v\""}],"type":"ab"}]}}}"#;
+    assert_eq!(rt; text.as_slice(), wanted.as_bytes());
+    let empty = Reply {
+        id: 0,
+        result: ReplyResult::Ok {
+            events: Vec::new(alloc),
+            out: None,
+        },
+    };
+    let text = write_reply(alloc, &empty)?;
+    let wanted = r#"{"id":0,"result":{"ok":{"data":null,"events":[]}}}"#;
+    assert_eq!(rt; text.as_slice(), wanted.as_bytes());
+    let failed = Reply {
+        id: u64::MAX,
+        result: ReplyResult::Error(String::from_str(alloc, "codespace: sdk, code: 5")?),
+    };
+    let text = write_reply(alloc, &failed)?;
+    let wanted = r#"{"id":18446744073709551615,"result":{"error":"codespace: sdk, code: 5"}}"#;
+    assert_eq!(rt; text.as_slice(), wanted.as_bytes());
+    Ok(())
+}
+
+#[test]
+fn coins_of_a_field_are_read(rt: HostRuntime) -> Result<(), Fail> {
+    let alloc = rt.alloc();
+    let text = r#"{"coins":[{"amount":"x","denom":"u"},{"amount":"2","denom":""}]}"#;
+    let value = read_json(alloc, text.as_bytes())?;
+    let read = told(alloc, coins_at(alloc, &value, "coins"))?;
+    let wanted = r#"[RawCoin { denom: "u", amount: "x" }, RawCoin { denom: "", amount: "2" }]"#;
+    assert_eq!(rt; read.as_str(), wanted);
+    let missing = told(alloc, coins_at(alloc, &value, "funds"))?;
+    assert_eq!(rt; missing.as_str(), "a list belongs at `funds`");
+    Ok(())
+}
+
+#[test]
+fn answers_to_queries_are_written(rt: HostRuntime) -> Result<(), Fail> {
+    let alloc = rt.alloc();
+    let invalid = SystemError::InvalidRequest {
+        error: String::from_str(alloc, "json")?,
+        request: Vec::from_array(alloc, [123u8])?,
+    };
+    let unsupported = SystemError::UnsupportedRequest {
+        kind: String::from_str(alloc, "bank.mint")?,
+    };
+    let no_contract = SystemError::NoSuchContract {
+        addr: String::from_str(alloc, "c")?,
+    };
+    for (answer, wanted) in [
+        (
+            Answer::Ok(Vec::from_array(alloc, [1u8, 2])?),
+            r#"{"ok":{"ok":"AQI="}}"#,
+        ),
+        (
+            Answer::ContractError(String::from_str(alloc, "no")?),
+            r#"{"ok":{"error":"no"}}"#,
+        ),
+        (
+            Answer::System(invalid),
+            r#"{"error":{"invalid_request":{"error":"json","request":"ew=="}}}"#,
+        ),
+        (
+            Answer::System(unsupported),
+            r#"{"error":{"unsupported_request":{"kind":"bank.mint"}}}"#,
+        ),
+        (
+            Answer::System(no_contract),
+            r#"{"error":{"no_such_contract":{"addr":"c"}}}"#,
+        ),
+        (
+            Answer::System(SystemError::NoSuchCode { code_id: u64::MAX }),
+            r#"{"error":{"no_such_code":{"code_id":18446744073709551615}}}"#,
+        ),
+    ] {
+        let text = write_answer(alloc, &answer)?;
+        assert_eq!(rt; text.as_slice(), wanted.as_bytes());
+    }
+    Ok(())
+}
+
+#[test]
+fn results_are_written(rt: HostRuntime) -> Result<(), Fail> {
+    let alloc = rt.alloc();
+    let mut outs = Vec::new(alloc);
+    outs.push(None)?;
+    outs.push(Some(Vec::from_array(alloc, [1u8])?))?;
+    let mut events = Vec::new(alloc);
+    events.push(one_event(alloc)?)?;
+    let failure = Failure {
+        kind: FailKind::OutOfGas,
+        codespace: String::from_str(alloc, "sdk")?,
+        code: 11,
+        detail: String::from_str(alloc, "OutOfGas")?,
+    };
+    let mut results = Vec::new(alloc);
+    results.push(TxResult {
+        failure: None,
+        outs,
+        events,
+        gas: 7,
+    })?;
+    results.push(TxResult {
+        failure: Some(failure),
+        outs: Vec::new(alloc),
+        events: Vec::new(alloc),
+        gas: 9,
+    })?;
+    let text = write_json(alloc, &list_value(alloc, &results)?)?;
+    let wanted =
+        r#"[{"code":0,"codespace":"","data":[null,"AQ=="],"detail":"","events":[{"attributes":[{"key":"k","value":"v\""}],"type":"ab"}],"gas":7},{"code":11,"codespace":"sdk","data":[],"detail":"OutOfGas","events":[],"gas":9}]"#;
+    assert_eq!(rt; text.as_slice(), wanted.as_bytes());
+    Ok(())
+}
+
+#[test]
+fn data_of_replies_is_protobuf(rt: HostRuntime) -> Result<(), Fail> {
+    let alloc = rt.alloc();
+    let none = reply_bytes(alloc, None, &None)?;
+    assert!(rt; none.is_empty());
+    let empty = reply_bytes(alloc, Some(""), &Some(Vec::new(alloc)))?;
+    assert!(rt; empty.is_empty());
+    let alone = reply_bytes(alloc, Some("abc"), &None)?;
+    assert_eq!(rt; alone.as_slice(), [10, 3, 97, 98, 99].as_slice());
+    let out = Some(vec![in alloc; 7u8; 200]?);
+    let long = reply_bytes(alloc, None, &out)?;
+    assert_eq!(rt; long.len(), 203);
+    assert!(rt; long.starts_with(&[10, 200, 1, 7]));
+    let both = reply_bytes(alloc, Some("a"), &out)?;
+    assert!(rt; both.starts_with(&[10, 1, 97, 18, 200, 1, 7]));
+    Ok(())
+}
