@@ -1,8 +1,7 @@
 pub mod Feeds
 pub mod Skips
 pub mod Handing
-pub mod Items
-pub mod Members
 pub mod Cuts
 pub mod Objects
+pub mod Readings
 pub mod Whole

@@ -3,9 +3,11 @@ use Rattle.std.specs.Prelude.{◌≡◌, ℕ, List, [], ◌∷◌, Some, None, c
 use Rattle.std.specs.Fmt.{digits}
 use Rattle.std.specs.Str.{is_utf8, chars}
 use Rattle.serde_json.proofs.OnLiterals.{serde_json_on_literals}
+use Rattle.json_shapes.specs.Json.{json_of as any_json}
 use Rattle.line_protocol.specs.declared.kind.BadKind.TheVariants.{Long}
-use Rattle.line_protocol.specs.Forms.{line_of, json_of, question_of, query_line, empty_line}
+use Rattle.line_protocol.specs.Forms.{line_of, json_of, query_line, empty_line}
 use Rattle.line_protocol.specs.Lines.{Raw, raws_of}
+use Rattle.line_protocol.specs.Parts.{question_of}
 use Rattle.line_protocol.specs.Texts.{line_text, bad_data, body_text}
 
 abbrev raw : List ℕ → ℕ → Raw
@@ -27,11 +29,11 @@ blanks = refl
 -- of a repeated field the last one counts, and the request is written anew
 query : line_of 3 (codes "{\"query\":{\"client\":1,\"client\":2,\"request\":[ 1 ]}}")
     ≡ Some (query_line (record { line = 3; client = 2; height = None; request = codes "[1]" }))
-unfolding line_of json_of question_of is_utf8 chars digits serde_json_on_literals
+unfolding line_of json_of any_json question_of is_utf8 chars digits serde_json_on_literals
 query = refl
 
 fraction : line_of 3 (codes "{\"query\":{\"client\":1,\"request\":1.0}}") ≡ None
-unfolding line_of json_of is_utf8 chars serde_json_on_literals
+unfolding line_of json_of any_json is_utf8 chars serde_json_on_literals
 fraction = refl
 
 bad : line_text (bad_data Long 2) ≡ codes "{\"bad_line\":{\"kind\":\"long\",\"line\":2}}\n"

@@ -3,6 +3,7 @@ pub mod Forms
 pub mod Gathering
 pub mod Lines
 pub mod Outcome
+pub mod Parts
 pub mod Plain
 pub mod Progress
 pub mod Reads

@@ -7,7 +7,7 @@ use Rattle.line_protocol.specs.declared.reply.QueryResult.TheVariants as results
 use Rattle.line_protocol.specs.declared.reply.QueryReply as reply_type
 use Rattle.chain_msgs.specs.Plain.{genesis_view, block_view, answer_view}
 use Rattle.line_protocol.specs.Texts.{QueryResult, answer, out_of_gas, not_yet, pruned, QueryReply}
-use Rattle.line_protocol.specs.Forms.{Question, Line, empty_line, genesis_line, block_line, query_line}
+use Rattle.line_protocol.specs.Parts.{Question, Line, empty_line, genesis_line, block_line, query_line}
 
 abbrev pub question_view : question_type.Question → Question
 question_view q = record { line = q.line; client = q.client; height = q.height; request = q.request.items }

@@ -1,51 +1,50 @@
 ghost use Rattle.std.specs.Prelude.{◌≡◌};
-ghost use Rattle.chain_msgs.specs.Plain.{Holding, holding_view, genesis_view};
-ghost use Rattle.coin_amounts.specs.Plain.{RawCoin as PlainCoin, raw_coin_view};
 ghost use Rattle.serde_json.specs.View.{view};
-ghost use Rattle.line_protocol.specs.Forms.{raw_coin, holding, genesis_of, is_chain_id, chain_id_at, prefix_at};
-ghost use Rattle.line_protocol.specs.Reads.{Reads};
+ghost use Rattle.json_shapes.specs.Answers.{Reads};
+ghost use Rattle.chain_msgs.specs.Plain.{Holding, holding_view, genesis_view};
+ghost use Rattle.line_protocol.specs.Parts.{holding, genesis_of, is_chain_id, chain_id_at, prefix_at};
 
-use crate::fields::{
-    Form, decimal_at, each_at, has_first_profile, text_at, text_or_null_at, u64_at,
-};
-use crate::kind::BadKind;
-use crate::line::ParseStop;
+use crate::fields::{decimal_at, has_first_profile};
 use crate::prefix::is_prefix;
-use chain_msgs::Genesis;
+use chain_msgs::{Genesis, coins_at};
 use coin_amounts::RawCoin;
+use json_shapes::{
+    Form, ShapeStop, Want, Wrapper, field, list_field, nullable_field, stop_at, text_at, u64_at,
+    wrapped_list,
+};
 use serde_json::Value;
 use std::alloc::Global;
 
-impl Form for RawCoin {
-    ghost Plain = { PlainCoin };
+/// An account and what it holds, as it is read.
+#[derive(Drop)]
+struct ReadHolding((String, Vec<RawCoin>));
 
-    ghost plain_view = { raw_coin_view };
+impl Form for ReadHolding {
+    ghost Plain = { Holding };
 
-    ghost form_of = { raw_coin };
+    ghost plain_view = { λ h. holding_view h.0 };
 
-    #[tactic(auto, unfolding(crate::specs::Forms::raw_coin))]
-    fn read(alloc: Global, value: &Value) -> Result<RawCoin, ParseStop> {
-        let denom = text_at(value, "denom")?;
-        let amount = text_at(value, "amount")?;
-        Ok(RawCoin {
-            denom: String::from_str(alloc, denom)?,
-            amount: String::from_str(alloc, amount)?,
-        })
+    ghost form = { holding };
+
+    fn want() -> Want {
+        Want::Text
+    }
+
+    #[tactic(auto, unfolding(crate::specs::Parts::holding_of))]
+    fn read(alloc: Global, value: &Value) -> Result<ReadHolding, ShapeStop> {
+        let address = field(alloc, value, "address")?;
+        let coins = coins_at(alloc, value, "coins")?;
+        Ok(ReadHolding((address, coins)))
     }
 }
 
-impl Form for (String, Vec<RawCoin>) {
-    ghost Plain = { Holding };
+impl Wrapper for ReadHolding {
+    type Inner = (String, Vec<RawCoin>);
 
-    ghost plain_view = { holding_view };
+    ghost around = { λ h. record { 0 = h } };
 
-    ghost form_of = { holding };
-
-    #[tactic(auto, unfolding(crate::specs::Forms::holding))]
-    fn read(alloc: Global, value: &Value) -> Result<(String, Vec<RawCoin>), ParseStop> {
-        let address = text_at(value, "address")?;
-        let coins = each_at(alloc, value, "coins")?;
-        Ok((String::from_str(alloc, address)?, coins))
+    fn into_inner(self) -> (String, Vec<RawCoin>) {
+        self.0
     }
 }
 
@@ -57,42 +56,42 @@ fn is_chain_id(text: &str) -> bool
 }
 
 /// The text in a field that passes for a chain id.
-fn chain_id_at(value: &Value) -> Result<&str, ParseStop>
+fn chain_id_at(alloc: Global, value: &Value) -> Result<&str, ShapeStop>
     ensures { Reads (λ text. text.now) result (chain_id_at (view value.now)) }
 {
-    let text = text_at(value, "chain_id")?;
+    let text = text_at(alloc, value, "chain_id")?;
     if is_chain_id(text) {
         Ok(text)
     } else {
-        Err(ParseStop::Bad(BadKind::Form))
+        Err(stop_at(alloc, "chain_id", Want::Text))
     }
 }
 
-fn prefix_at(value: &Value) -> Result<&str, ParseStop>
+fn prefix_at(alloc: Global, value: &Value) -> Result<&str, ShapeStop>
     ensures { Reads (λ text. text.now) result (prefix_at (view value.now)) }
 {
-    let text = text_at(value, "prefix")?;
+    let text = text_at(alloc, value, "prefix")?;
     if is_prefix(text) {
         Ok(text)
     } else {
-        Err(ParseStop::Bad(BadKind::Form))
+        Err(stop_at(alloc, "prefix", Want::Text))
     }
 }
 
 /// What a genesis line says.
-#[tactic(auto, unfolding(crate::specs::Forms::genesis_of))]
-pub(crate) fn genesis_of(alloc: Global, value: &Value) -> Result<Genesis, ParseStop>
+#[tactic(auto, unfolding(crate::specs::Parts::genesis_of))]
+pub(crate) fn genesis_of(alloc: Global, value: &Value) -> Result<Genesis, ShapeStop>
     ensures { Reads genesis_view result (genesis_of (view value.now)) }
 {
-    let chain_id = chain_id_at(value)?;
-    let time = decimal_at(value, "time")?;
-    let prefix = prefix_at(value)?;
-    let authority = text_or_null_at(alloc, value, "authority")?;
-    let capabilities = each_at(alloc, value, "capabilities")?;
-    let balances = each_at(alloc, value, "balances")?;
-    let query_gas = u64_at(value, "query_gas")?;
+    let chain_id = chain_id_at(alloc, value)?;
+    let time = decimal_at(alloc, value, "time")?;
+    let prefix = prefix_at(alloc, value)?;
+    let authority = nullable_field(alloc, value, "authority")?;
+    let capabilities = list_field(alloc, value, "capabilities")?;
+    let balances = wrapped_list::<ReadHolding>(alloc, value, "balances")?;
+    let query_gas = u64_at(alloc, value, "query_gas")?;
     if !has_first_profile(value) {
-        return Err(ParseStop::Bad(BadKind::Form));
+        return Err(stop_at(alloc, "profile", Want::Number));
     }
     Ok(Genesis {
         chain_id: String::from_str(alloc, chain_id)?,

@@ -4,7 +4,6 @@
 
 mod block_form;
 mod fields;
-mod floats;
 mod genesis_form;
 mod kind;
 mod line;
@@ -12,13 +11,14 @@ mod line_form;
 mod lines;
 mod prefix;
 mod reply;
+mod said;
 mod texts;
 
-pub use fields::{Form, each_at, text_at};
 pub use kind::BadKind;
 pub use line::{Line, ParseStop, Question};
-pub use line_form::{parse, read_json, variant_of};
+pub use line_form::parse;
 pub use lines::{LineStop, Lines, RawLine};
 pub use prefix::is_prefix;
 pub use reply::{QueryReply, QueryResult};
+pub use said::{raw_coins_at, read_json, text_at, variant_of};
 pub use texts::{bad_text, block_text, check_text, genesis_text, query_text};

@@ -1,17 +1,18 @@
-ghost use Rattle.std.specs.Prelude.{◌≡◌, ◌++◌, ◌<◌, ◌^◌, ℕ, List, Option, length, false, map, codes, IfOk};
-ghost use Rattle.chain_msgs.specs.Plain.{Attribute as PlainAttribute, Event as PlainEvent, TxResult as PlainResult, attribute_view, event_view, out_view, failure_view, result_view, genesis_view, answer_view, system_view};
-ghost use Rattle.serde_json.specs.Data.{Data, string, object, member, no_members};
-ghost use Rattle.hex.specs.Hex.{encode_lower};
-ghost use Rattle.sha2.specs.Sha256.{sha256};
+ghost use Rattle.std.specs.Prelude.{◌≡◌, ◌++◌, false, map, codes, IfOk};
+ghost use Rattle.serde_json.specs.Data.{string, object, member, no_members};
 ghost use Rattle.serde_json.specs.View.{view};
 ghost use Rattle.serde_json.specs.Written.{has_float};
+ghost use Rattle.hex.specs.Hex.{encode_lower};
+ghost use Rattle.sha2.specs.Sha256.{sha256};
+ghost use Rattle.json_shapes.specs.Values.{variant_data};
+ghost use Rattle.chain_msgs.specs.Plain.{result_view, genesis_view};
 ghost use Rattle.line_protocol.specs.Plain.{query_result_view, reply_view};
-ghost use Rattle.line_protocol.specs.Texts.{line_text, variant, binary, list_data, genesis_data, attribute_data, event_data, out_data, success_data, failure_data, result_data, body_data, next_digest, block_data, system_data, answer_data, query_result_data, query_data, kind_text, check_data, bad_data};
+ghost use Rattle.line_protocol.specs.Texts.{line_text, genesis_data, body_data, next_digest, block_data, query_result_data, query_data, kind_text, check_data, bad_data};
 
 use crate::kind::BadKind;
 use crate::reply::{QueryReply, QueryResult};
-use base64::engine::general_purpose::STANDARD;
-use chain_msgs::{Answer, Attribute, Event, Failure, Genesis, SystemError, TxResult};
+use chain_msgs::{Genesis, TxResult, answer_value, list_value};
+use json_shapes::write_json;
 use serde_json::{Value, json};
 use sha2::{Digest, Sha256};
 use std::alloc::{AllocError, Global};
@@ -21,7 +22,7 @@ fn write_line(alloc: Global, value: &Value) -> Result<Vec<u8>, AllocError>
     requires { has_float (view value.now) ≡ false }
     ensures { IfOk result (λ text. text.items ≡ line_text (view value.now)) }
 {
-    let mut text = value.to_vec(alloc)?;
+    let mut text = write_json(alloc, value)?;
     text.push(b'\n')?;
     Ok(text)
 }
@@ -89,112 +90,6 @@ fn kind_text(kind: BadKind) -> &'static str
     }
 }
 
-/// Bytes in base64.
-fn binary(alloc: Global, bytes: &[u8]) -> Result<Value, AllocError>
-    ensures { IfOk result (λ value. view value ≡ binary bytes.now) }
-{
-    Ok(Value::String(STANDARD.encode(alloc, bytes)?))
-}
-
-/// What is written as JSON.
-trait Shown {
-    /// Its plain form.
-    ghost Plain: { Type 0 };
-
-    ghost plain_view: { Self → Plain };
-
-    ghost data_of: { Plain → Data };
-
-    fn value(&self, alloc: Global) -> Result<Value, AllocError>
-        ensures { IfOk result (λ value. view value ≡ data_of (plain_view self.now)) };
-}
-
-/// A list, item by item.
-fn list_value<T: Shown>(alloc: Global, list: &[T]) -> Result<Value, AllocError>
-    requires { length list.now < 2 ^ 63 }
-    ensures { IfOk result (λ value. view value ≡ list_data (map T.data_of (map T.plain_view list.now))) }
-{
-    let mut values = Vec::with_capacity(alloc, list.len())?;
-    for item in list {
-        values.push(item.value(alloc)?)?;
-    }
-    Ok(Value::Array(values))
-}
-
-impl Shown for Option<Vec<u8>> {
-    ghost Plain = { Option (List ℕ) };
-
-    ghost plain_view = { out_view };
-
-    ghost data_of = { out_data };
-
-    fn value(&self, alloc: Global) -> Result<Value, AllocError> {
-        match self {
-            None => Ok(Value::Null),
-            Some(bytes) => binary(alloc, bytes),
-        }
-    }
-}
-
-impl Shown for Attribute {
-    ghost Plain = { PlainAttribute };
-
-    ghost plain_view = { attribute_view };
-
-    ghost data_of = { attribute_data };
-
-    fn value(&self, alloc: Global) -> Result<Value, AllocError> {
-        json!(in alloc; {"key": &self.key, "value": &self.value})
-    }
-}
-
-impl Shown for Event {
-    ghost Plain = { PlainEvent };
-
-    ghost plain_view = { event_view };
-
-    ghost data_of = { event_data };
-
-    fn value(&self, alloc: Global) -> Result<Value, AllocError> {
-        let attributes = list_value(alloc, &self.attributes)?;
-        json!(in alloc; {"attributes": attributes, "type": &self.kind})
-    }
-}
-
-impl Shown for TxResult {
-    ghost Plain = { PlainResult };
-
-    ghost plain_view = { result_view };
-
-    ghost data_of = { result_data };
-
-    fn value(&self, alloc: Global) -> Result<Value, AllocError> {
-        match &self.failure {
-            None => success_value(alloc, self),
-            Some(failure) => failure_value(alloc, failure, self.gas),
-        }
-    }
-}
-
-fn success_value(alloc: Global, r: &TxResult) -> Result<Value, AllocError>
-    ensures { IfOk result (λ value. view value ≡ success_data (result_view r.now)) }
-{
-    let outs = list_value(alloc, &r.outs)?;
-    let events = list_value(alloc, &r.events)?;
-    json!(in alloc; {
-        "code": 0u32, "codespace": "", "data": outs, "detail": "", "events": events, "gas": r.gas
-    })
-}
-
-fn failure_value(alloc: Global, failure: &Failure, gas: u64) -> Result<Value, AllocError>
-    ensures { IfOk result (λ value. view value ≡ failure_data (failure_view failure.now) gas) }
-{
-    json!(in alloc; {
-        "code": failure.code, "codespace": &failure.codespace, "data": [],
-        "detail": &failure.detail, "events": [], "gas": gas
-    })
-}
-
 /// The body of a block's line, which its digest covers.
 fn body_value(alloc: Global, height: u64, results: &[TxResult]) -> Result<Value, AllocError>
     ensures { IfOk result (λ value. view value ≡ body_data height (map result_view results.now)) }
@@ -204,7 +99,7 @@ fn body_value(alloc: Global, height: u64, results: &[TxResult]) -> Result<Value,
 }
 
 fn block_value(alloc: Global, body: Value, digest: &[u8; 32]) -> Result<Value, AllocError>
-    ensures { IfOk result (λ value. view value ≡ variant (codes "block")
+    ensures { IfOk result (λ value. view value ≡ variant_data (codes "block")
         (object (member (codes "body") (view body)
         (member (codes "digest") (string (encode_lower digest.now)) no_members)))) }
 {
@@ -235,46 +130,10 @@ pub fn block_text(
         ≡ next_digest last.now height (map result_view results.now)) }
 {
     let body = body_value(alloc, height, results)?;
-    let text = body.to_vec(alloc)?;
+    let text = write_json(alloc, &body)?;
     let digest = chained_digest(last, &text);
     let line = block_value(alloc, body, &digest)?;
     Ok((write_line(alloc, &line)?, digest))
-}
-
-fn system_value(alloc: Global, error: &SystemError) -> Result<Value, AllocError>
-    ensures { IfOk result (λ value. view value ≡ system_data (system_view error.now)) }
-{
-    match error {
-        SystemError::InvalidRequest { error, request } => {
-            let request = binary(alloc, request)?;
-            json!(in alloc; {"invalid_request": {"error": error, "request": request}})
-        }
-        SystemError::UnsupportedRequest { kind } => {
-            json!(in alloc; {"unsupported_request": {"kind": kind}})
-        }
-        SystemError::NoSuchContract { addr } => {
-            json!(in alloc; {"no_such_contract": {"addr": addr}})
-        }
-        SystemError::NoSuchCode { code_id } => {
-            json!(in alloc; {"no_such_code": {"code_id": *code_id}})
-        }
-    }
-}
-
-fn answer_value(alloc: Global, answer: &Answer) -> Result<Value, AllocError>
-    ensures { IfOk result (λ value. view value ≡ answer_data (answer_view answer.now)) }
-{
-    match answer {
-        Answer::Ok(bytes) => {
-            let bytes = binary(alloc, bytes)?;
-            json!(in alloc; {"ok": {"ok": bytes}})
-        }
-        Answer::ContractError(text) => json!(in alloc; {"ok": {"error": text}}),
-        Answer::System(error) => {
-            let error = system_value(alloc, error)?;
-            json!(in alloc; {"error": error})
-        }
-    }
 }
 
 fn query_result_value(alloc: Global, found: &QueryResult) -> Result<Value, AllocError>

@@ -4,6 +4,7 @@ pub mod Delivering
 pub mod Denoms
 pub mod Distinct
 mod Goings
+pub mod Items
 pub mod Minting
 pub mod Openings
 pub mod Parts

@@ -4,7 +4,8 @@ use Rattle.serde_json.specs.Data.{Data, string, object, member, no_members}
 use Rattle.serde_json.specs.Written.{compact_text}
 use Rattle.coin_amounts.specs.Text.{coins_text}
 use Rattle.chain_msgs.specs.Plain.{Attribute, Event, not_enough, out_of_gas, Failure, TxResult, answered}
-use Rattle.line_protocol.specs.Texts.{variant, line_text, block_data, next_digest, first_digest, QueryResult, answer, QueryReply, query_data}
+use Rattle.json_shapes.specs.Values.{variant_data as variant}
+use Rattle.line_protocol.specs.Texts.{line_text, block_data, next_digest, first_digest, QueryResult, answer, QueryReply, query_data}
 use Rattle.line_protocol.specs.Texts as texts
 use Rattle.gas_meter.specs.Costs.{standard_schedule, coins_cost}
 use Rattle.bank_ledger.specs.Balances.{Balances, moved, Shortfall, shortfall}

@@ -5,8 +5,9 @@ use Rattle.std.specs.Str.{bytes_eq}
 use Rattle.serde_json.specs.Data.{Data}
 use Rattle.coin_amounts.specs.Plain.{Coin}
 use Rattle.coin_amounts.specs.Coins.{coins_of}
+use Rattle.chain_msgs.specs.Forms.{coin as raw_coin}
 use Rattle.chain_msgs.specs.Plain.{Tx}
-use Rattle.line_protocol.specs.Forms.{◌>>=◌, json_of, variant_of, text_at, each_at, raw_coin, Question}
+use Rattle.line_protocol.specs.Forms.{◌>>=◌, json_of, variant_of, text_at, each_at, Question}
 use Rattle.wasmnode.specs.Addresses.{Address, address_of}
 
 -- what the variant of this name holds

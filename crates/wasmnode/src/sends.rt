@@ -9,8 +9,8 @@ ghost use Rattle.wasmnode.specs.Views.{address_view, prefix_view, payment_view, 
 
 use crate::address::{Address, Prefix};
 use chain_msgs::Tx;
-use coin_amounts::{Coins, CoinsFault, RawCoin, read_coins};
-use line_protocol::{BadKind, ParseStop, Question, each_at, read_json, text_at, variant_of};
+use coin_amounts::{Coins, CoinsFault, read_coins};
+use line_protocol::{BadKind, ParseStop, Question, raw_coins_at, read_json, text_at, variant_of};
 use serde_json::Value;
 use std::alloc::Global;
 
@@ -60,7 +60,7 @@ fn address_at(
     ensures { Reads address_view result
         (address_at (prefix_view prefix.now) name.now (view value.now)) }
 {
-    let text = text_at(value, name)?;
+    let text = text_at(alloc, value, name)?;
     prefix.read(alloc, text)
 }
 
@@ -68,7 +68,7 @@ fn address_at(
 fn coins_at(alloc: Global, value: &Value, name: &str) -> Result<Coins, ParseStop>
     ensures { Reads coins_view result (coins_at name.now (view value.now)) }
 {
-    let raws: Vec<RawCoin> = each_at(alloc, value, name)?;
+    let raws = raw_coins_at(alloc, value, name)?;
     match read_coins(alloc, &raws) {
         Ok(coins) if !coins.is_empty() => Ok(coins),
         Err(CoinsFault::NoMemory) => Err(ParseStop::NoMemory),
@@ -138,7 +138,7 @@ pub fn ask_of(alloc: Global, prefix: &Prefix, question: Question) -> Result<Ask,
     let bank = under(request, "bank")?;
     let balance = under(bank, "balance")?;
     let address = address_at(alloc, prefix, &balance, "address")?;
-    let denom = String::from_str(alloc, text_at(&balance, "denom")?)?;
+    let denom = String::from_str(alloc, text_at(alloc, &balance, "denom")?)?;
     Ok(Ask {
         client: question.client,
         address,

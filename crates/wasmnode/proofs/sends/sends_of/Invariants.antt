@@ -2,9 +2,9 @@
 use Rattle.std.proofs.Common.{◌≡◌, map}
 use Rattle.std.specs.Vec.Iter.{into_iter_items}
 use Rattle.chain_msgs.specs.Plain.{tx_view}
-use Rattle.line_protocol.proofs.Items.{with_front}
 use Rattle.wasmnode.specs.Sends.{sends_of}
 use Rattle.wasmnode.specs.Views.{send_view, prefix_view}
+use Rattle.wasmnode.proofs.Items.{with_front}
 use Rattle.wasmnode.proofs.sends.sends_of.Given as goal
 
 abbrev pub invariant-loop-tx : goal.invariant-loop-tx
