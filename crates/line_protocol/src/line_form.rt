@@ -13,9 +13,7 @@ use crate::fields::u32_at;
 use crate::genesis_form::genesis_of;
 use crate::line::{Line, ParseStop, Question};
 use crate::said::{read_json, said};
-use json_shapes::{
-    ShapeStop, Want, optional_field, stop_at, stop_for, take_one_field, write_json,
-};
+use json_shapes::{ShapeStop, Want, optional_field, stop_at, stop_for, take_one_field, write_json};
 use serde_json::Value;
 use std::alloc::Global;
 
