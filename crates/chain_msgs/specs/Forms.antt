@@ -2,9 +2,9 @@
 use Rattle.std.specs.Prelude.{ℕ, ◌++◌, ◌&&◌, List, codes, nat_le, Option, Some, None, option_and_then, Ok, if◌then◌else◌}
 use Rattle.std.specs.Str.{bytes_eq}
 use Rattle.coin_amounts.specs.Plain.{RawCoin}
-use Rattle.serde_json.specs.Data.{Data}
+use Rattle.serde_json.specs.Data.{Data, Members}
 use Rattle.serde_json.specs.Events.{items_len}
-use Rattle.serde_json.specs.Find.{as_str}
+use Rattle.serde_json.specs.Find.{as_str, as_object}
 use Rattle.json_shapes.specs.Shapes.{Form, Reading, ◌>>=◌, mapped, within, field_step, found, text, number, binary, items, nullable, list, field, optional, or_empty, variant}
 use Rattle.json_shapes.specs.declared.stop.Want.TheVariants.{Text, Number, List as ListWant, Variant}
 use Rattle.chain_msgs.specs.Plain.{Attribute, Event}
@@ -204,8 +204,14 @@ sub_msg_of d = do
 abbrev pub sub_msg : Form SubMsg
 sub_msg = record { want = Number; read = sub_msg_of }
 
+-- an object, whatever its fields are
+abbrev pub members_of : Data → Reading Members
+members_of d = found ListWant (as_object d)
+
+-- each of its fields may be missing, but it is an object
 unfoldable pub response_of : Data → Reading Response
 response_of d = do
+  _ ← members_of d
   messages ← or_empty (codes "messages") sub_msg d
   attributes ← or_empty (codes "attributes") attribute d
   events ← or_empty (codes "events") event d

@@ -1,11 +1,11 @@
 //! How what contracts answer is read.
 
 ghost use Rattle.std.specs.Prelude.{◌≡◌, map, option_map};
-ghost use Rattle.serde_json.specs.View.{view};
+ghost use Rattle.serde_json.specs.View.{view, members_view};
 ghost use Rattle.json_shapes.specs.Answers.{Reads};
 ghost use Rattle.chain_msgs.specs.Plain.{attribute_view, event_view, out_view};
 ghost use Rattle.chain_msgs.specs.Messages.{SubMsg as PlainSubMsg, Response as PlainResponse, sub_msg_view, response_view, told_view};
-ghost use Rattle.chain_msgs.specs.Forms.{reply_word, reply_on, sub_msg, response, named_told, told_of};
+ghost use Rattle.chain_msgs.specs.Forms.{reply_word, reply_on, sub_msg, members_of, response, named_told, told_of};
 ghost use Rattle.chain_msgs.specs.Answers.{told_in, is_reserved, has_reserved, is_bad_event, first_bad, bad_in_response, bad_in, response_in, query_result_in, ReadsOutcome};
 ghost use Rattle.chain_msgs.specs.Stops.{json_stop, shape_stop};
 
@@ -15,7 +15,7 @@ use json_shapes::{
     Binary, Form, JsonStop, ShapeStop, Want, field, optional_field, optional_list, read_json,
     stop_for, u64_at, variant, within,
 };
-use serde_json::Value;
+use serde_json::{Map, Value};
 use std::alloc::Global;
 
 impl Form for ReplyOn {
@@ -83,6 +83,17 @@ fn bytes_in(found: Option<Binary>) -> Option<Vec<u8>>
     }
 }
 
+/// The members of an object. A list is what belongs there first.
+fn members_of<'a>(alloc: Global, value: &'a Value) -> Result<&'a Map<String, Value>, ShapeStop>
+    ensures { Reads (λ members. members_view members.now.entries) result
+        (members_of (view value.now)) }
+{
+    match value.as_object() {
+        Some(members) => Ok(members),
+        None => Err(stop_for(alloc, Want::List)),
+    }
+}
+
 impl Form for Response {
     ghost Plain = { PlainResponse };
 
@@ -96,6 +107,7 @@ impl Form for Response {
 
     #[tactic(auto, unfolding(crate::specs::Forms::response_of))]
     fn read(alloc: Global, value: &Value) -> Result<Response, ShapeStop> {
+        let _members = members_of(alloc, value)?;
         let messages = optional_list(alloc, value, "messages")?;
         let attributes = optional_list(alloc, value, "attributes")?;
         let events = optional_list(alloc, value, "events")?;

@@ -19,8 +19,6 @@ mod reply;
 mod response;
 mod results;
 mod shown;
-#[cfg(test)]
-mod tests;
 mod texts;
 mod tx_msg;
 

@@ -5,7 +5,7 @@ use Rattle.serde_json.specs.Data.{Data, null, boolean, number, string, array, ob
 use Rattle.serde_json.specs.Read.{read}
 use Rattle.serde_json.specs.Written.{has_float}
 
--- what a text reads as: it is UTF-8, and JSON of nesting at most 127
+-- what a text reads as: it is UTF-8, and JSON of nesting at most 127 whose numbers are none too large for a float
 unfoldable pub json_of : List ℕ → Option Data
 json_of text = if is_utf8 text then read text else None
 

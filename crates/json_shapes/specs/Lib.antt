@@ -1,6 +1,5 @@
 pub mod Answers
 pub mod Examples
 pub mod Json
-pub mod Sample
 pub mod Shapes
 pub mod Values

@@ -1,6 +1,8 @@
-ghost use Rattle.std.specs.Prelude.{◌≡◌, if◌then◌else◌, IfOk, false};
+ghost use Rattle.std.specs.Prelude.{◌≡◌, ◌≤◌, if◌then◌else◌, IfOk, Some, false};
+ghost use Rattle.serde_json.specs.Data.{depth};
+ghost use Rattle.serde_json.specs.Read.{read, max_depth};
 ghost use Rattle.serde_json.specs.View.{view};
-ghost use Rattle.serde_json.specs.Written.{has_float, compact_text};
+ghost use Rattle.serde_json.specs.Written.{has_float, compact_text, IsInOrder};
 ghost use Rattle.json_shapes.specs.Answers.{ReadsJson};
 
 use crate::floats::has_float;
@@ -35,8 +37,11 @@ fn json_stop(is_memory: bool) -> JsonStop
 
 /// The compact text of a value.
 pub fn write_json(alloc: Global, value: &Value) -> Result<Vec<u8>, AllocError>
-    ensures { IfOk result (λ bytes. has_float (view value.now) ≡ false
+    ensures text { IfOk result (λ bytes. has_float (view value.now) ≡ false
         → bytes.items ≡ compact_text (view value.now)) }
+    ensures order { IfOk result (λ bytes. IsInOrder bytes.items (view value.now)) }
+    ensures reads_back { IfOk result (λ bytes. depth (view value.now) ≤ max_depth
+        → read bytes.items ≡ Some (view value.now)) }
 {
     value.to_vec(alloc)
 }

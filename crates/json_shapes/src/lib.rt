@@ -7,12 +7,8 @@ mod floats;
 mod form;
 mod json;
 mod paths;
-#[cfg(test)]
-mod sample;
 mod stop;
 mod taking;
-#[cfg(test)]
-mod tests;
 mod values;
 mod variants;
 mod wrapped;

@@ -28,7 +28,7 @@ pub fn take_one_field(value: Value) -> Option<(String, Value)>
     }
 }
 
-/// Takes the list out of a field: its items as they are, and the value without that field.
+/// Takes the list out of a field: its items as they are, and the value whose other fields are as they were.
 pub fn take_list(alloc: Global, value: Value, name: &str) -> Result<(Vec<Value>, Value), ShapeStop>
     ensures list { Reads (λ taken. items_view taken.0.items) result
         (field name.now items (view value)) }
@@ -41,7 +41,7 @@ pub fn take_list(alloc: Global, value: Value, name: &str) -> Result<(Vec<Value>,
     }
 }
 
-/// The list in a field, and the value without that field.
+/// The list in a field, and the value whose other fields are as they were.
 fn cut_list(value: Value, name: &str) -> Option<(Vec<Value>, Value)>
     ensures list { option_map (λ cut. items_view cut.0.items) result
         ≡ option_and_then as_array (get name.now (view value)) }

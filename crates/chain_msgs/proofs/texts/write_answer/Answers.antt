@@ -5,4 +5,4 @@ use Rattle.chain_msgs.proofs.texts.write_answer.Goals as goal
 
 pub returns : goal.returns
 unfolding answer_text
-returns c = written c.write_json.result _ _ c.write_json.ensures c.in_ok-value.ensures (answer_whole (answer_view c.args.answer.now))
+returns c = written c.write_json.result _ _ c.write_json.ensures.text c.in_ok-value.ensures (answer_whole (answer_view c.args.answer.now))

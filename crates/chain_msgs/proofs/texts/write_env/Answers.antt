@@ -5,4 +5,4 @@ use Rattle.chain_msgs.proofs.texts.write_env.Goals as goal
 
 pub returns : goal.returns
 unfolding env_text
-returns c = written c.write_json.result _ _ c.write_json.ensures c.in_ok-value.ensures (env_whole (env_view c.args.env.now))
+returns c = written c.write_json.result _ _ c.write_json.ensures.text c.in_ok-value.ensures (env_whole (env_view c.args.env.now))

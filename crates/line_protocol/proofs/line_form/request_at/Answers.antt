@@ -10,4 +10,4 @@ pub returns-in_ok-write_json-in-Some : goal.returns-in_ok-write_json-in-Some
 returns-in_ok-write_json-in-Some c =
     let request = sym c.in-Some.ensures in
     let whole = found_whole (codes "request") (view c.args.value.now) _ c.requires request in
-    ap (λ o. within (field_step (codes "request")) (found Variant (option_map compact_text o))) request ∙ ap Ok (sym (c.in_ok-write_json-in-Some.ensures whole))
+    ap (λ o. within (field_step (codes "request")) (found Variant (option_map compact_text o))) request ∙ ap Ok (sym (c.in_ok-write_json-in-Some.ensures.text whole))

@@ -1,9 +1,11 @@
 ghost use Rattle.std.specs.Prelude.{◌≡◌, codes, string_bytes, option_map, map};
 ghost use Rattle.serde_json.specs.View.{view};
 ghost use Rattle.json_shapes.specs.Answers.{Reads};
-ghost use Rattle.json_shapes.specs.Sample.{Coin as PlainCoin, Act as PlainAct, Order as PlainOrder, coin, act, order, send_of, burn_of, named_act, send, burn};
+ghost use Rattle.line_tests.specs.Sample.{Coin as PlainCoin, Act as PlainAct, Order as PlainOrder, coin, act, order, send_of, burn_of, named_act, send, burn};
 
-use crate::{Form, ShapeStop, Want, field, list_field, optional_field, stop_for, variant, within};
+use json_shapes::{
+    Form, ShapeStop, Want, field, list_field, optional_field, stop_for, variant, within,
+};
 use serde_json::Value;
 use std::alloc::Global;
 

@@ -1,4 +1,4 @@
--- Not for readers of contracts: the form of a caller in the tests, a record with a list of records, a text that may be
+-- The form that the tests read: a record with a list of records, a text that may be
 -- missing, and a variant.
 use Rattle.std.specs.Prelude.{ℕ, List, codes, Option, None, Ok, if◌then◌else◌}
 use Rattle.std.specs.Str.{bytes_eq}

@@ -1,12 +1,12 @@
 use crate::sample::{Act, Order};
-use crate::{
+use crate::telling::told;
+use json_shapes::{
     Form, JsonStop, ShapeStop, bytes_at, field, list_at, list_field, nullable_field,
     optional_field, optional_list, read_json, take_list, take_one_field, text_at, u64_at, variant,
     write_json,
 };
 use serde_json::Value;
 use std::alloc::{AllocError, Global};
-use std::fmt::Debug;
 use std::process::Abort;
 use std::test::Fail;
 
@@ -50,14 +50,6 @@ fn values_are_written_with_no_space_and_their_keys_in_order(rt: HostRuntime) -> 
     let wanted = "{\"a\":\"x\",\"b\":[1,-2,null]}";
     assert_eq!(rt; text.as_slice(), wanted.as_bytes());
     Ok(())
-}
-
-/// The value that was read, or what is wrong.
-fn told<T: Debug + Drop>(alloc: Global, read: Result<T, ShapeStop>) -> Result<String, AllocError> {
-    match read {
-        Ok(x) => format!(in alloc; "{x:?}"),
-        Err(stop) => format!(in alloc; "{stop}"),
-    }
 }
 
 /// What the reader of this name tells of the field `a`.
