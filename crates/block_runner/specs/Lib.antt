@@ -1,0 +1,4 @@
+pub mod Opening
+pub mod Answers
+pub mod Reads
+pub mod Crediting

@@ -1,0 +1,13 @@
+//! What a chain does with the lines that it is given: so far, the records that a genesis opens it with.
+#![tactic(auto)]
+
+mod addresses;
+mod crediting;
+mod holdings;
+mod opening;
+mod stop;
+#[cfg(test)]
+mod tests;
+
+pub use opening::genesis;
+pub use stop::GenesisStop;

@@ -1,0 +1,4 @@
+pub mod FactsFound
+pub mod Payments
+pub mod Telling
+pub mod Whole

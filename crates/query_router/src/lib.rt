@@ -1,0 +1,15 @@
+//! What a query is answered on the state of the chain.
+#![tactic(auto)]
+
+mod answers;
+mod bank;
+mod charge;
+mod forms;
+mod records;
+mod request;
+mod router;
+mod stop;
+
+pub use records::facts;
+pub use router::query;
+pub use stop::QueryStop;

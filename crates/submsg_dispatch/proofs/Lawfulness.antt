@@ -1,0 +1,94 @@
+-- Lawful states that layers stand for, before and after a call.
+use Rattle.std.proofs.Common.{◌≡◌, ℕ, List, Option, Result, Ok, Err, refl, sym, ap, ◌∙◌, subst}
+use Rattle.std.specs.Ordering.{nat_cmp}
+use Rattle.std.specs.Cmp.Lexicographic.{slice_cmp}
+use Rattle.std.specs.FinMap.{FinMap}
+use Rattle.coin_amounts.specs.Plain.{Coin}
+use Rattle.kv_layers.specs.declared.layers.Layers.{Layers}
+use Rattle.kv_layers.specs.Layers.{Stands, HasCurrent}
+use Rattle.kv_layers.specs.Maps.{Maps, changed}
+use Rattle.chain_records.specs.Records.{PlainFacts}
+use Rattle.chain_records.specs.State.{Bytes, State, Spells, addressed_cmp}
+use Rattle.chain_records.specs.Spelled.{OfEach, HasTyped}
+use Rattle.bank_ledger.specs.Lawful.{HasLawfulAmounts}
+use Rattle.bank_ledger.specs.Effects.{IsSent, IsBurned}
+use Rattle.bank_ledger.specs.Accounts.{sent, burned}
+use Rattle.gatekeeper.specs.Cache.{Tally}
+use Rattle.query_router.specs.Lawful.{IsLawful, HasLawful}
+use Rattle.submsg_dispatch.specs.declared.stop.HandleStop.{HandleStop}
+use Rattle.submsg_dispatch.specs.declared.stop.HandleStop.TheVariants.{Failed, OutOfGas, NoMemory}
+use Rattle.submsg_dispatch.specs.Parts.{Part}
+use Rattle.submsg_dispatch.specs.Reaching.{UnlessNoMemory}
+use Rattle.submsg_dispatch.specs.Under.{LeadsUnder, HasLawfulUnder}
+
+-- ---- other balances and supplies
+
+pub recounted : (s : State) (balances : FinMap addressed_cmp ℕ) (supplies : FinMap (slice_cmp nat_cmp) ℕ) → IsLawful s → HasLawfulAmounts (record s { balances = balances; supplies = supplies }) → IsLawful (record s { balances = balances; supplies = supplies })
+recounted s balances supplies l counts = record {
+  prefix = l.prefix;
+  authority = l.authority;
+  amounts = counts;
+  codes = record { first = l.codes.first; few = l.codes.few; numbered = l.codes.numbered; codes = l.codes.codes; pinned = l.codes.pinned; few_pinned = l.codes.few_pinned };
+  contracts = record {
+    contracts = λ addr c at.
+        let is = l.contracts.contracts addr c at in
+        (is.0, record { code = is.1.code; creator = is.1.creator; admin = is.1.admin });
+    storage = l.contracts.storage;
+  };
+}
+
+pub lawful_sent : (s t : State) (from to : List ℕ) (coins : List Coin) → IsLawful s → IsSent s from to coins t → IsLawful t
+lawful_sent s t from to coins lawful is =
+    let next = sent s from to coins in
+    subst IsLawful (sym is.state) (recounted s next.balances s.supplies lawful (subst HasLawfulAmounts is.state is.lawful))
+
+pub lawful_burned : (s t : State) (from : List ℕ) (coins : List Coin) → IsLawful s → IsBurned s from coins t → IsLawful t
+lawful_burned s t from coins lawful is =
+    let next = burned s from coins in
+    subst IsLawful (sym is.state) (recounted s next.balances next.supplies lawful (subst HasLawfulAmounts is.state is.lawful))
+
+-- ---- what is known of some state
+
+pub typed_of : (S : Bytes → Type 0) → HasLawful S → HasTyped S
+typed_of S some = record { map = some.map; state = some.state; stands = some.stands; spelled = some.spelled; holds = tt }
+
+-- the prefix is that of the facts that were read
+pub under : (S : Bytes → Type 0) (facts : PlainFacts) → HasLawful S → OfEach S (λ s. facts ≡ s.facts) → HasLawfulUnder facts.prefix S
+under S facts some each = record {
+  map = some.map;
+  state = some.state;
+  stands = some.stands;
+  spelled = some.spelled;
+  holds = (some.holds, ap (λ (f : PlainFacts). f.prefix) (sym (each some.map some.state some.stands some.spelled)));
+}
+
+pub each_under : {B : Type 0} (S : B → Bytes → Type 0) (layers : Layers B) (facts : PlainFacts) → OfEach (HasCurrent S layers) (λ s. facts ≡ s.facts) → (maps : Maps) (s : State) → Stands S layers maps → Spells maps.current s → s.facts.prefix ≡ facts.prefix
+each_under S layers facts each maps s stands spelled = ap (λ (f : PlainFacts). f.prefix) (sym (each maps.current s (maps, stands, refl) spelled))
+
+-- ---- after a call
+
+pub lawful_after : {B X A : Type 0} {S : B → Bytes → Type 0} {prefix : List ℕ} {old new : Layers B} {before after : Option Tally} {l m : ℕ} {part : Part A} {view : X → A} (result : Result X HandleStop) → HasLawfulUnder prefix (HasCurrent S old)
+    → LeadsUnder prefix S old new before after l m part view result → UnlessNoMemory result (HasLawfulUnder prefix (HasCurrent S new))
+lawful_after (Ok x) some leads =
+    let maps = some.stands.0 in
+    let came = leads.leads maps some.state some.stands.1 (rw some.stands.2 some.spelled) some.holds.0 some.holds.1 in
+    let arrives = came.0.1 in
+    record { map = arrives.map; state = came.0.0; stands = (changed maps arrives.map, arrives.stands, refl); spelled = arrives.spelled; holds = (arrives.lawful, ap (λ (f : PlainFacts). f.prefix) arrives.facts ∙ some.holds.1) }
+lawful_after (Err (Failed failure)) some leads =
+    let maps = some.stands.0 in
+    let came = leads.leads maps some.state some.stands.1 (rw some.stands.2 some.spelled) some.holds.0 some.holds.1 in
+    record { map = some.map; state = some.state; stands = (maps, came.0.0, some.stands.2); spelled = some.spelled; holds = some.holds }
+lawful_after (Err OutOfGas) some leads =
+    let maps = some.stands.0 in
+    let came = leads.leads maps some.state some.stands.1 (rw some.stands.2 some.spelled) some.holds.0 some.holds.1 in
+    record { map = some.map; state = some.state; stands = (maps, came.0.0, some.stands.2); spelled = some.spelled; holds = some.holds }
+lawful_after (Err NoMemory) some leads = tt
+
+pub any_prefix : {prefix : List ℕ} (S : Bytes → Type 0) → HasLawfulUnder prefix S → HasLawful S
+any_prefix S some = record { map = some.map; state = some.state; stands = some.stands; spelled = some.spelled; holds = some.holds.0 }
+
+pub lawful_any : {X : Type 0} (prefix : List ℕ) (S : Bytes → Type 0) (result : Result X HandleStop) → UnlessNoMemory result (HasLawfulUnder prefix S) → UnlessNoMemory result (HasLawful S)
+lawful_any prefix S (Ok x) some = any_prefix S some
+lawful_any prefix S (Err (Failed failure)) some = any_prefix S some
+lawful_any prefix S (Err OutOfGas) some = any_prefix S some
+lawful_any prefix S (Err NoMemory) some = tt

@@ -1,0 +1,55 @@
+-- Parts of a transaction's work, one after the other on one state and one amount of gas.
+use Rattle.std.specs.Prelude.{ℕ, ◌-◌, List, [], ◌++◌, Option, None, Some, nat_lt, if◌then◌else◌}
+use Rattle.chain_msgs.specs.Plain.{Failure}
+use Rattle.chain_records.specs.State.{State}
+
+-- how a part ends: with a state and what it gives, with a failure, or without gas
+pub data Ended (A : Type 0) : Type 0 where
+  kept : State → A → Ended A
+  failed : Failure → Ended A
+  out_of_gas : Ended A
+
+-- the gas that it leaves, and the codes that its calls asked for, in order
+pub record Ran (A : Type 0) : Type 0 where
+  pub ended : Ended A
+  pub left : ℕ
+  pub fetched : List (List ℕ)
+
+-- from a state and the gas that is left
+abbrev pub Part : Type 0 → Type 0
+Part A = State → ℕ → Ran A
+
+abbrev pub done : {A : Type 0} → A → Part A
+done x s left = record { ended = kept s x; left = left; fetched = [] }
+
+abbrev pub fails : {A : Type 0} → Failure → Part A
+fails failure s left = record { ended = failed failure; left = left; fetched = [] }
+
+-- where too little gas is left, all of it is used
+abbrev pub charge : ℕ → Part (Unit {0})
+charge cost s left =
+    if nat_lt left cost then record { ended = out_of_gas; left = 0; fetched = [] }
+    else record { ended = kept s tt; left = left - cost; fetched = [] }
+
+-- with what there is, or a failure where there is nothing
+abbrev pub or_fails : {A : Type 0} → Failure → Option A → Part A
+or_fails failure None = fails failure
+or_fails failure (Some x) = done x
+
+-- with what the state says
+abbrev pub reads : {A : Type 0} → (State → Part A) → Part A
+reads part s left = part s s left
+
+abbrev pub fetched_before : {A : Type 0} → List (List ℕ) → Ran A → Ran A
+fetched_before codes r = record { ended = r.ended; left = r.left; fetched = codes ++ r.fetched }
+
+abbrev pub goes_on : {A B : Type 0} → (A → Part B) → Ended A → ℕ → List (List ℕ) → Ran B
+goes_on next (kept s x) left codes = fetched_before codes (next x s left)
+goes_on next (failed failure) left codes = record { ended = failed failure; left = left; fetched = codes }
+goes_on next out_of_gas left codes = record { ended = out_of_gas; left = left; fetched = codes }
+
+infixl 10 ◌>>=◌
+abbrev pub ◌>>=◌ : {A B : Type 0} → Part A → (A → Part B) → Part B
+(part >>= next) s left =
+    let r = part s left in
+    goes_on next r.ended r.left r.fetched

@@ -1,0 +1,19 @@
+//! What a message does that a sender asks for, and what a transaction does, which is its messages together or nothing.
+#![tactic(auto)]
+
+mod bank;
+mod charges;
+mod events;
+mod failures;
+mod message;
+mod outcome;
+mod reading;
+mod results;
+mod stop;
+mod transaction;
+mod turns;
+
+pub use message::handle;
+pub use outcome::Outcome;
+pub use stop::HandleStop;
+pub use transaction::run_tx;

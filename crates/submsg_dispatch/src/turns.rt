@@ -1,0 +1,135 @@
+//! The messages of a transaction, one after the other.
+
+ghost use Rattle.std.specs.Prelude.{◌≡◌, ◌+◌, map};
+ghost use Rattle.serde_json.specs.View.{view};
+ghost use Rattle.kv_layers.specs.Layers as stacks;
+ghost use Rattle.kv_layers.specs.Layers.{HasCurrent};
+ghost use Rattle.chain_records.specs.Keys.{IsAddress};
+ghost use Rattle.chain_msgs.specs.Messages.{tx_msg_view};
+ghost use Rattle.submsg_dispatch.specs.Transactions.{unbuilt, tx_handled, read_and_handled, all_handled};
+ghost use Rattle.submsg_dispatch.specs.Under.{LeadsUnder, LeadsOn, HasLawfulUnder, MissesForm, StopsAt, outcomes_view};
+ghost use Rattle.submsg_dispatch.specs.Views.{outcome_view};
+
+use crate::charges::charge_message;
+use crate::failures::{message_bad, stop_of, unsupported};
+use crate::message::handle_under;
+use crate::outcome::Outcome;
+use crate::stop::HandleStop;
+use chain_msgs::{TxMsg, read_tx_msg};
+use gas_meter::{Meter, Schedule};
+use gatekeeper::{Modules, fetches_join};
+use json_shapes::ShapeStop;
+use kv_layers::{Base, Layers};
+use serde_json::Value;
+use std::alloc::Global;
+
+/// Why a message of this form is not done, once it is paid.
+fn unbuilt(alloc: Global, kind: &str, meter: &mut Meter, costs: &Schedule) -> HandleStop
+    ensures stop { StopsAt result meter.old.left meter.new.left (unbuilt costs.now kind.now) }
+    ensures gas { meter.new.left + meter.new.used ≡ meter.old.left + meter.old.used }
+{
+    match charge_message(meter, costs) {
+        Ok(()) => stop_of(unsupported(alloc, kind)),
+        Err(stop) => stop,
+    }
+}
+
+/// Does a message of a transaction.
+fn handle_tx_msg<B: Base, M: Modules>(
+    alloc: Global,
+    layers: &mut Layers<B>,
+    modules: &mut M,
+    prefix: &str,
+    sender: &[u8],
+    msg: &TxMsg,
+    index: u32,
+    meter: &mut Meter,
+    costs: &Schedule,
+) -> Result<Outcome, HandleStop>
+    requires sender { IsAddress sender.now }
+    requires lawful { HasLawfulUnder prefix.now (HasCurrent B.stands_for layers.old) }
+    ensures leads { LeadsUnder prefix.now B.stands_for layers.old layers.new
+        (M.tally modules.old) (M.tally modules.new) meter.old.left meter.new.left
+        (tx_handled costs.now sender.now index (tx_msg_view msg.now)) outcome_view result }
+    ensures gas { meter.new.left + meter.new.used ≡ meter.old.left + meter.old.used }
+    ensures layers { stacks.depth layers.new ≡ stacks.depth layers.old }
+{
+    match msg {
+        TxMsg::Cosmos(msg) => handle_under(
+            alloc, layers, modules, prefix, sender, msg, index, meter, costs, 0,
+        ),
+        TxMsg::StoreCode { .. } => Err(unbuilt(alloc, "store_code", meter, costs)),
+        TxMsg::Pin { .. } => Err(unbuilt(alloc, "pin_code", meter, costs)),
+        TxMsg::Unpin { .. } => Err(unbuilt(alloc, "unpin_code", meter, costs)),
+        TxMsg::Sudo { .. } => Err(unbuilt(alloc, "sudo", meter, costs)),
+    }
+}
+
+/// The stop of a value that is no message.
+fn message_stop(alloc: Global, stop: ShapeStop) -> HandleStop
+    ensures { MissesForm stop result }
+{
+    match stop {
+        ShapeStop::Shape { .. } => stop_of(message_bad(alloc)),
+        ShapeStop::NoMemory => HandleStop::NoMemory,
+    }
+}
+
+/// Does the message that a value is, if it is one.
+fn read_and_handle<B: Base, M: Modules>(
+    alloc: Global,
+    layers: &mut Layers<B>,
+    modules: &mut M,
+    prefix: &str,
+    sender: &[u8],
+    value: &Value,
+    index: u32,
+    meter: &mut Meter,
+    costs: &Schedule,
+) -> Result<Outcome, HandleStop>
+    requires sender { IsAddress sender.now }
+    requires lawful { HasLawfulUnder prefix.now (HasCurrent B.stands_for layers.old) }
+    ensures leads { LeadsUnder prefix.now B.stands_for layers.old layers.new
+        (M.tally modules.old) (M.tally modules.new) meter.old.left meter.new.left
+        (read_and_handled costs.now sender.now index (view value.now)) outcome_view result }
+    ensures gas { meter.new.left + meter.new.used ≡ meter.old.left + meter.old.used }
+    ensures layers { stacks.depth layers.new ≡ stacks.depth layers.old }
+{
+    match read_tx_msg(alloc, value) {
+        Ok(msg) => handle_tx_msg(
+            alloc, layers, modules, prefix, sender, &msg, index, meter, costs,
+        ),
+        Err(stop) => Err(message_stop(alloc, stop)),
+    }
+}
+
+/// Does messages in order, up to the first that isn't done. What those before it did stays.
+pub(crate) fn handle_all<B: Base, M: Modules>(
+    alloc: Global,
+    layers: &mut Layers<B>,
+    modules: &mut M,
+    prefix: &str,
+    sender: &[u8],
+    values: &[Value],
+    index: u32,
+    meter: &mut Meter,
+    costs: &Schedule,
+) -> Result<Vec<Outcome>, HandleStop>
+    requires sender { IsAddress sender.now }
+    requires lawful { HasLawfulUnder prefix.now (HasCurrent B.stands_for layers.old) }
+    ensures leads { LeadsOn prefix.now B.stands_for layers.old layers.new
+        (M.tally modules.old) (M.tally modules.new) meter.old.left meter.new.left
+        (all_handled costs.now sender.now index (map view values.now)) outcomes_view result }
+    ensures gas { meter.new.left + meter.new.used ≡ meter.old.left + meter.old.used }
+    ensures layers { stacks.depth layers.new ≡ stacks.depth layers.old }
+{
+    fetches_join();
+    let mut outcomes = Vec::with_capacity(alloc, values.len())?;
+    for value in values {
+        let outcome = read_and_handle(
+            alloc, layers, modules, prefix, sender, value, index, meter, costs,
+        )?;
+        outcomes.push(outcome)?;
+    }
+    Ok(outcomes)
+}
