@@ -51,7 +51,7 @@ impl Form for Coin {
 }
 
 impl Form for Act {
-    ghost use Rattle.json_shapes.specs.declared.sample.Act.TheVariants.{Send, Burn};
+    ghost use Rattle.line_tests.specs.declared.sample.Act.TheVariants.{Send, Burn};
 
     ghost Plain = { PlainAct };
 
