@@ -1,5 +1,5 @@
 -- Geneses that open a chain, and faults of some that open none.
-use Rattle.std.specs.Prelude.{◌≡◌, ℕ, true, List, [], ◌∷◌, codes, None, Some, Err, is_some, refl}
+use Rattle.std.specs.Prelude.{◌≡◌, ℕ, true, List, [], ◌∷◌, codes, Some, Err, is_some, refl}
 use Rattle.std.specs.Result.{result_ok}
 use Rattle.coin_amounts.specs.Plain.{RawCoin}
 use Rattle.chain_addr.specs.Address.{address_of}

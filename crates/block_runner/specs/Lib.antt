@@ -2,3 +2,4 @@ pub mod Opening
 pub mod Answers
 pub mod Reads
 pub mod Crediting
+pub mod Examples

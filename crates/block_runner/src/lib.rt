@@ -6,8 +6,6 @@ mod crediting;
 mod holdings;
 mod opening;
 mod stop;
-#[cfg(test)]
-mod tests;
 
 pub use opening::genesis;
 pub use stop::GenesisStop;

@@ -9,7 +9,7 @@ use Rattle.kv_layers.specs.Layers.{Stands, HasCurrent}
 use Rattle.kv_layers.specs.Maps.{Maps, changed}
 use Rattle.chain_records.specs.Records.{PlainFacts}
 use Rattle.chain_records.specs.State.{Bytes, State, Spells, addressed_cmp}
-use Rattle.chain_records.specs.Spelled.{OfEach, HasTyped}
+use Rattle.chain_records.specs.Spelled.{OfEach}
 use Rattle.bank_ledger.specs.Lawful.{HasLawfulAmounts}
 use Rattle.bank_ledger.specs.Effects.{IsSent, IsBurned}
 use Rattle.bank_ledger.specs.Accounts.{sent, burned}
@@ -48,9 +48,6 @@ lawful_burned s t from coins lawful is =
     subst IsLawful (sym is.state) (recounted s next.balances next.supplies lawful (subst HasLawfulAmounts is.state is.lawful))
 
 -- ---- what is known of some state
-
-pub typed_of : (S : Bytes → Type 0) → HasLawful S → HasTyped S
-typed_of S some = record { map = some.map; state = some.state; stands = some.stands; spelled = some.spelled; holds = tt }
 
 -- the prefix is that of the facts that were read
 pub under : (S : Bytes → Type 0) (facts : PlainFacts) → HasLawful S → OfEach S (λ s. facts ≡ s.facts) → HasLawfulUnder facts.prefix S

@@ -1,4 +1,5 @@
-//! What a message does that a sender asks for, and what a transaction does, which is its messages together or nothing.
+//! What a message does that a sender asks for, and what a transaction does: its messages together,
+//! or nothing.
 #![tactic(auto)]
 
 mod bank;

@@ -1,6 +1,6 @@
 //! What a message does, by its kind.
 
-ghost use Rattle.std.specs.Prelude.{◌≡◌, ◌+◌, ◌≤◌, List, Option};
+ghost use Rattle.std.specs.Prelude.{◌≡◌, ◌+◌, ◌≤◌, Option};
 ghost use Rattle.kv_layers.specs.Layers as stacks;
 ghost use Rattle.kv_layers.specs.Layers.{HasCurrent};
 ghost use Rattle.chain_records.specs.Keys.{IsAddress};
