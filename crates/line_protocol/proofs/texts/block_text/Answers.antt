@@ -12,5 +12,5 @@ pub returns-clause-digest : goal.returns-clause-digest
 returns-clause-digest c =
     let results = map result_view c.args.results.now in
     let body = c.in_ok-body.ensures in
-    let text = c.in_ok-text.ensures (ap has_float body ∙ body_whole c.args.height results) ∙ ap compact_text body in
+    let text = c.in_ok-text.ensures.text (ap has_float body ∙ body_whole c.args.height results) ∙ ap compact_text body in
     c.chained_digest-digest.ensures ∙ ap (λ t. sha256 (c.args.last.now ++ t)) (c.deref.ensures.value ∙ text)
