@@ -26,13 +26,13 @@ module _ {A : Type 0} (form : Form A) (text : List ℕ) where
   json_read d is whole = rw (is, whole) refl
 
 pub stopped_shape : {A : Type 0} (r : Reading A) (stop : ShapeStop) → IsStopOf stop r → IsStopAt (shape_stop stop) (read_outcome r)
-stopped_shape r (shape_stops.Shape path want) (fault, is, named, wanted) = (fault, ap read_outcome is, named, wanted)
+stopped_shape r (shape_stops.Shape path want) (fault, is, named) = (fault, ap read_outcome is, named)
 stopped_shape r shape_stops.NoMemory any = tt
 
 -- A stop comes before any name is looked at.
 pub stop_judged : (stop : ResponseStop) (outcome : Outcome (Told Response)) → IsStopAt stop outcome → IsStopAt stop (judged outcome)
 stop_judged stops.Json outcome is = ap judged is
-stop_judged (stops.Shape path want) outcome (fault, is, named, wanted) = (fault, ap judged is, named, wanted)
+stop_judged (stops.Shape path want) outcome (fault, is, named) = (fault, ap judged is, named)
 stop_judged (stops.Event n) outcome is = ap judged is
 stop_judged stops.NoMemory outcome any = tt
 

@@ -1,10 +1,12 @@
--- What the bytes of a contract's answer say: a value, or the first of these that holds: they are no JSON with whole numbers,
--- they haven't the form, or an event has a name that contracts may not choose.
-use Rattle.std.specs.Prelude.{◌≡◌, ℕ, ◌+◌, ◌==◌, ◌||◌, List, [], ◌∷◌, length, Bool, true, nat_lt, Option, Some, None, option_and_then, Result, Ok, Err, ⊤, string_bytes, if◌then◌else◌}
+-- What the bytes of a contract's answer say, a `ContractResult` of CosmWasm 1.x in JSON: a value, or the first of these that
+-- holds: they are no JSON with whole numbers, they haven't the form, or an event has a name that contracts may not choose.
+use Rattle.std.specs.Prelude.{◌≡◌, ℕ, ◌+◌, ◌==◌, ◌||◌, List, [], ◌∷◌, length, Bool, true, nat_lt, Option, Some, None, option_and_then, Result, Ok, Err, ⊤, if◌then◌else◌}
 use Rattle.std.specs.List.{list_any}
 use Rattle.serde_json.specs.Data.{Data}
+use Rattle.json_shapes.specs.Answers.{Names}
 use Rattle.json_shapes.specs.Json.{json_of, whole_numbered}
-use Rattle.json_shapes.specs.Shapes.{Form, Fault, Reading, binary, path_text}
+use Rattle.json_shapes.specs.Shapes.{Form, Fault, Reading, binary}
+use Rattle.json_shapes.specs.declared.stop.ShapeStop.TheVariants.{Shape}
 use Rattle.chain_msgs.specs.Plain.{Attribute, Event}
 use Rattle.chain_msgs.specs.Messages.{Response, Told, told, error}
 use Rattle.chain_msgs.specs.Forms.{told_of, response}
@@ -84,7 +86,7 @@ query_result_in text = told_in binary text
 -- this stop belongs to the outcome; want of memory says nothing
 abbrev pub IsStopAt : {A : Type 0} → ResponseStop → Outcome A → Type 0
 IsStopAt stops.Json outcome = outcome ≡ no_json
-IsStopAt (stops.Shape path want) outcome = (fault : Fault) × (outcome ≡ no_form fault) × (string_bytes path ≡ path_text fault.path) × (want ≡ fault.want)
+IsStopAt (stops.Shape path want) outcome = (fault : Fault) × (outcome ≡ no_form fault) × Names (Shape path want) fault
 IsStopAt (stops.Event n) outcome = outcome ≡ bad_event n
 IsStopAt stops.NoMemory outcome = ⊤
 

@@ -1,11 +1,13 @@
--- What JSON says as a message or as what a contract answers, field by field in this order.
-use Rattle.std.specs.Prelude.{ℕ, ◌++◌, ◌&&◌, List, codes, nat_le, Option, Some, None, option_and_then, Ok, if◌then◌else◌}
+-- What JSON says as a message or as what a contract answers, field by field in this order. The names of fields and variants are
+-- those of CosmWasm 1.x (`CosmosMsg`, `SubMsg`, `Response` and `ContractResult` of cosmwasm-std); `store_code`, `pin_code`,
+-- `unpin_code` and `sudo` are this chain's own.
+use Rattle.std.specs.Prelude.{ℕ, ◌++◌, ◌&&◌, Bool, List, codes, nat_le, Option, Some, None, option_and_then, Ok, if◌then◌else◌}
 use Rattle.std.specs.Str.{bytes_eq}
 use Rattle.coin_amounts.specs.Plain.{RawCoin}
-use Rattle.serde_json.specs.Data.{Data, Members}
+use Rattle.serde_json.specs.Data.{Data, Items, Members}
 use Rattle.serde_json.specs.Events.{items_len}
-use Rattle.serde_json.specs.Find.{as_str, as_object}
-use Rattle.json_shapes.specs.Shapes.{Form, Reading, ◌>>=◌, mapped, within, field_step, found, text, number, binary, items, nullable, list, field, optional, or_empty, variant}
+use Rattle.serde_json.specs.Find.{as_str, as_array, as_object}
+use Rattle.json_shapes.specs.Shapes.{Form, Reading, ◌>>=◌, mapped, within, field_step, found, text, number, binary, nullable, each, list, field, optional, or_empty, variant}
 use Rattle.json_shapes.specs.declared.stop.Want.TheVariants.{Text, Number, List as ListWant, Variant}
 use Rattle.chain_msgs.specs.Plain.{Attribute, Event}
 use Rattle.chain_msgs.specs.Messages.{CosmosMsg, bank_send, bank_burn, execute, instantiate, migrate, update_admin, clear_admin, other, TxMsg, cosmos, store_code, pin, unpin, sudo, SubMsg, Response, Told, told, error}
@@ -111,18 +113,14 @@ clear_admin_of d = do
   contract ← field (codes "contract_addr") text d
   Ok (clear_admin contract)
 
--- the last ones of the list of names
-unfoldable pub named_admin : List ℕ × Data → Reading CosmosMsg
-named_admin (name, d) =
-    if bytes_eq name (codes "migrate") then within (field_step (codes "migrate")) (migrate_of d)
-    else (if bytes_eq name (codes "update_admin") then within (field_step (codes "update_admin")) (update_admin_of d)
-    else (if bytes_eq name (codes "clear_admin") then within (field_step (codes "clear_admin")) (clear_admin_of d) else Ok (other (codes "wasm." ++ name))))
-
 unfoldable pub named_wasm : List ℕ × Data → Reading CosmosMsg
 named_wasm (name, d) =
     if bytes_eq name (codes "execute") then within (field_step (codes "execute")) (execute_of d)
     else (if bytes_eq name (codes "instantiate") then within (field_step (codes "instantiate")) (instantiate_of d)
-    else (if bytes_eq name (codes "instantiate2") then within (field_step (codes "instantiate2")) (instantiate2_of d) else named_admin (name, d)))
+    else (if bytes_eq name (codes "instantiate2") then within (field_step (codes "instantiate2")) (instantiate2_of d)
+    else (if bytes_eq name (codes "migrate") then within (field_step (codes "migrate")) (migrate_of d)
+    else (if bytes_eq name (codes "update_admin") then within (field_step (codes "update_admin")) (update_admin_of d)
+    else (if bytes_eq name (codes "clear_admin") then within (field_step (codes "clear_admin")) (clear_admin_of d) else Ok (other (codes "wasm." ++ name)))))))
 
 -- ---- a message
 
@@ -153,16 +151,26 @@ store_code_of d = do
   code ← field (codes "code") binary d
   Ok (store_code code allow)
 
--- how many ids there are, which is 1 to 64
-abbrev pub counted : ℕ → Reading ℕ
-counted n = if nat_le 1 n && nat_le n 64 then Ok n else found ListWant None
+abbrev pub has_fit_count : Items → Bool
+has_fit_count ds = nat_le 1 (items_len ds) && nat_le (items_len ds) 64
 
--- a list of 1 to 64 ids: how many there are is looked at before what they are
-unfoldable pub ids_of : Data → Reading (List ℕ)
-ids_of d = do
-  found ← field (codes "ids") items d
-  count ← within (field_step (codes "ids")) (counted (items_len found))
-  field (codes "ids") (list number) d
+-- how many there are is looked at before what they are
+abbrev pub counted_ids : Items → Reading (List ℕ)
+counted_ids ds = if has_fit_count ds then each number 0 ds else found ListWant None
+
+-- a list of 1 to 64 ids
+abbrev pub ids : Form (List ℕ)
+ids = record { want = ListWant; read = λ d. found ListWant (as_array d) >>= counted_ids }
+
+unfoldable pub pin_of : Data → Reading TxMsg
+pin_of d = do
+  found ← field (codes "ids") ids d
+  Ok (pin found)
+
+unfoldable pub unpin_of : Data → Reading TxMsg
+unpin_of d = do
+  found ← field (codes "ids") ids d
+  Ok (unpin found)
 
 unfoldable pub sudo_of : Data → Reading TxMsg
 sudo_of d = do
@@ -173,8 +181,8 @@ sudo_of d = do
 unfoldable pub named_tx_msg : List ℕ × Data → Reading TxMsg
 named_tx_msg (name, d) =
     if bytes_eq name (codes "store_code") then within (field_step (codes "store_code")) (store_code_of d)
-    else (if bytes_eq name (codes "pin_code") then within (field_step (codes "pin_code")) (mapped pin (ids_of d))
-    else (if bytes_eq name (codes "unpin_code") then within (field_step (codes "unpin_code")) (mapped unpin (ids_of d))
+    else (if bytes_eq name (codes "pin_code") then within (field_step (codes "pin_code")) (pin_of d)
+    else (if bytes_eq name (codes "unpin_code") then within (field_step (codes "unpin_code")) (unpin_of d)
     else (if bytes_eq name (codes "sudo") then within (field_step (codes "sudo")) (sudo_of d) else mapped cosmos (named_cosmos (name, d)))))
 
 unfoldable pub tx_msg_of : Data → Reading TxMsg
@@ -223,8 +231,8 @@ response = record { want = ListWant; read = response_of }
 
 abbrev pub named_told : {A : Type 0} → Form A → List ℕ × Data → Reading (Told A)
 named_told form (name, d) =
-    if bytes_eq name (codes "ok") then within (field_step (codes "ok")) (mapped told (form.read d))
-    else (if bytes_eq name (codes "error") then within (field_step (codes "error")) (mapped error (text.read d)) else found Variant None)
+    if bytes_eq name (codes "ok") then mapped told (within (field_step (codes "ok")) (form.read d))
+    else (if bytes_eq name (codes "error") then mapped error (within (field_step (codes "error")) (text.read d)) else found Variant None)
 
 -- a value of the form, or the text of an error
 abbrev pub told_of : {A : Type 0} → Form A → Data → Reading (Told A)

@@ -1,4 +1,5 @@
--- What a reply has as its data: a protobuf message of one or two fields of bytes.
+-- What a reply has as its data, in the encoding of protobuf: a message of one or two fields of bytes, as CosmWasm's
+-- `MsgExecuteContractResponse` (data) and `MsgInstantiateContractResponse` (address, data).
 use Rattle.std.specs.Prelude.{ℕ, zero, suc, ◌+◌, ◌*◌, ◌/◌, ◌%◌, nat_lt, List, [], ◌∷◌, ◌++◌, length, Option, Some, None, unwrap_or, if◌then◌else◌}
 
 -- A number to the base 128 in at most so many bytes: each byte has seven bits, the lowest first, and each but the last has

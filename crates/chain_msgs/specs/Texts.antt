@@ -1,5 +1,6 @@
--- What is written as the compact text of a JSON value with its keys in rising order: what a contract is told, and what a client
--- is told of a transaction and of a query.
+-- What is written as the compact text of a JSON value with its keys in rising order: what a contract is told, in the fields of
+-- CosmWasm 1.x (`Env`, `MessageInfo`, `Reply` and `SystemResult` of cosmwasm-std), and what a client is told, of a query the same
+-- and of a transaction in this chain's own fields.
 use Rattle.std.specs.Prelude.{ℕ, List, [], map, codes, decimal, Option, None, Some}
 use Rattle.coin_amounts.specs.Plain.{Coin}
 use Rattle.serde_json.specs.Data.{Data, null, string, object, no_members, member}

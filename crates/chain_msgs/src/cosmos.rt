@@ -5,7 +5,7 @@ ghost use Rattle.serde_json.specs.View.{view};
 ghost use Rattle.json_shapes.specs.Answers.{Reads};
 ghost use Rattle.coin_amounts.specs.Plain.{raw_coin_view};
 ghost use Rattle.chain_msgs.specs.Messages.{CosmosMsg as PlainCosmosMsg, cosmos_view, other};
-ghost use Rattle.chain_msgs.specs.Forms.{cosmos_msg, send_of, burn_of, funds_of, execute_of, instantiate_of, instantiate2_of, migrate_of, update_admin_of, clear_admin_of, named_bank, named_wasm, named_admin, bank_of, wasm_of, named_cosmos};
+ghost use Rattle.chain_msgs.specs.Forms.{cosmos_msg, send_of, burn_of, funds_of, execute_of, instantiate_of, instantiate2_of, migrate_of, update_admin_of, clear_admin_of, named_bank, named_wasm, bank_of, wasm_of, named_cosmos};
 
 use crate::messages::CosmosMsg;
 use crate::pieces::coins_at;
@@ -39,14 +39,8 @@ pub(crate) fn named_cosmos(alloc: Global, name: &str, inner: &Value) -> Result<C
     ensures { Reads cosmos_view result (named_cosmos (name.now, view inner.now)) }
 {
     match name {
-        "bank" => match bank_of(alloc, inner) {
-            Ok(msg) => Ok(msg),
-            Err(stop) => Err(within(alloc, "bank", stop)),
-        },
-        "wasm" => match wasm_of(alloc, inner) {
-            Ok(msg) => Ok(msg),
-            Err(stop) => Err(within(alloc, "wasm", stop)),
-        },
+        "bank" => within(alloc, "bank", bank_of(alloc, inner)),
+        "wasm" => within(alloc, "wasm", wasm_of(alloc, inner)),
         _ => other_of(alloc, "", name),
     }
 }
@@ -73,14 +67,8 @@ fn named_bank(alloc: Global, name: &str, inner: &Value) -> Result<CosmosMsg, Sha
     ensures { Reads cosmos_view result (named_bank (name.now, view inner.now)) }
 {
     match name {
-        "send" => match send_of(alloc, inner) {
-            Ok(msg) => Ok(msg),
-            Err(stop) => Err(within(alloc, "send", stop)),
-        },
-        "burn" => match burn_of(alloc, inner) {
-            Ok(msg) => Ok(msg),
-            Err(stop) => Err(within(alloc, "burn", stop)),
-        },
+        "send" => within(alloc, "send", send_of(alloc, inner)),
+        "burn" => within(alloc, "burn", burn_of(alloc, inner)),
         _ => other_of(alloc, "bank.", name),
     }
 }
@@ -117,39 +105,12 @@ fn named_wasm(alloc: Global, name: &str, inner: &Value) -> Result<CosmosMsg, Sha
     ensures { Reads cosmos_view result (named_wasm (name.now, view inner.now)) }
 {
     match name {
-        "execute" => match execute_of(alloc, inner) {
-            Ok(msg) => Ok(msg),
-            Err(stop) => Err(within(alloc, "execute", stop)),
-        },
-        "instantiate" => match instantiate_of(alloc, inner) {
-            Ok(msg) => Ok(msg),
-            Err(stop) => Err(within(alloc, "instantiate", stop)),
-        },
-        "instantiate2" => match instantiate2_of(alloc, inner) {
-            Ok(msg) => Ok(msg),
-            Err(stop) => Err(within(alloc, "instantiate2", stop)),
-        },
-        _ => named_admin(alloc, name, inner),
-    }
-}
-
-#[tactic(auto, unfolding(crate::specs::Forms::named_admin))]
-fn named_admin(alloc: Global, name: &str, inner: &Value) -> Result<CosmosMsg, ShapeStop>
-    ensures { Reads cosmos_view result (named_admin (name.now, view inner.now)) }
-{
-    match name {
-        "migrate" => match migrate_of(alloc, inner) {
-            Ok(msg) => Ok(msg),
-            Err(stop) => Err(within(alloc, "migrate", stop)),
-        },
-        "update_admin" => match update_admin_of(alloc, inner) {
-            Ok(msg) => Ok(msg),
-            Err(stop) => Err(within(alloc, "update_admin", stop)),
-        },
-        "clear_admin" => match clear_admin_of(alloc, inner) {
-            Ok(msg) => Ok(msg),
-            Err(stop) => Err(within(alloc, "clear_admin", stop)),
-        },
+        "execute" => within(alloc, "execute", execute_of(alloc, inner)),
+        "instantiate" => within(alloc, "instantiate", instantiate_of(alloc, inner)),
+        "instantiate2" => within(alloc, "instantiate2", instantiate2_of(alloc, inner)),
+        "migrate" => within(alloc, "migrate", migrate_of(alloc, inner)),
+        "update_admin" => within(alloc, "update_admin", update_admin_of(alloc, inner)),
+        "clear_admin" => within(alloc, "clear_admin", clear_admin_of(alloc, inner)),
         _ => other_of(alloc, "wasm.", name),
     }
 }

@@ -4,7 +4,6 @@
 #![tactic(auto)]
 
 mod answer;
-mod answers;
 mod block;
 mod cosmos;
 mod env;
@@ -20,10 +19,10 @@ mod response;
 mod results;
 mod shown;
 mod texts;
+mod told;
 mod tx_msg;
 
 pub use answer::{Answer, SystemError};
-pub use answers::{read_query_result, read_response};
 pub use block::{Block, Tx, TxResult};
 pub use env::Env;
 pub use event::{Attribute, Event};
@@ -37,4 +36,5 @@ pub use reply::{Reply, ReplyResult};
 pub use response::{ReplyOn, Response, ResponseStop, SubMsg, Told};
 pub use shown::{Shown, list_value};
 pub use texts::{answer_value, write_answer, write_env, write_info, write_reply};
+pub use told::{read_query_result, read_response};
 pub use tx_msg::read_tx_msg;

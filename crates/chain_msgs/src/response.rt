@@ -1,9 +1,6 @@
-ghost use Rattle.std.specs.Prelude.{◌≡◌};
-
 use crate::event::{Attribute, Event};
 use crate::messages::CosmosMsg;
 use json_shapes::Want;
-use std::alloc::AllocError;
 use thiserror::Error;
 
 /// When a contract wants to hear what became of its submessage.
@@ -54,14 +51,4 @@ pub enum ResponseStop {
     Event(usize),
     #[error("out of memory")]
     NoMemory,
-}
-
-impl From<AllocError> for ResponseStop {
-    ghost use Rattle.chain_msgs.specs.declared.response.ResponseStop.TheVariants.{NoMemory};
-
-    ghost from_gives = { λ _ stop. stop ≡ NoMemory };
-
-    fn from(_error: AllocError) -> ResponseStop {
-        ResponseStop::NoMemory
-    }
 }

@@ -18,7 +18,7 @@ Names NoMemory fault = ⊤
 
 -- the reading has the fault that the stop names
 abbrev pub IsStopOf : {A : Type 0} → ShapeStop → Reading A → Type 0
-IsStopOf (Shape path want) r = (fault : Fault) × (r ≡ Err fault) × (string_bytes path ≡ path_text fault.path) × (want ≡ fault.want)
+IsStopOf (Shape path want) r = (fault : Fault) × (r ≡ Err fault) × Names (Shape path want) fault
 IsStopOf NoMemory r = ⊤
 
 -- what a reader answers, where the view is what a value stands for
@@ -31,6 +31,12 @@ abbrev pub IsBehind : Step → ShapeStop → ShapeStop → Type 0
 IsBehind step (Shape path want) (Shape longer same) = (string_bytes longer ≡ dotted (step_text step) (string_bytes path)) × (same ≡ want)
 IsBehind step (Shape path want) NoMemory = ⊤
 IsBehind step NoMemory stop = stop ≡ NoMemory
+
+-- the value as it was, or the stop with the step in front of its path
+abbrev pub IsWithin : {X : Type 0} → Step → Result X ShapeStop → Result X ShapeStop → Type 0
+IsWithin step (Ok x) result = result ≡ Ok x
+IsWithin step (Err stop) (Ok x) = ⊥
+IsWithin step (Err stop) (Err longer) = IsBehind step stop longer
 
 -- what is read of a text: its value, which is whole; that it reads as nothing; or that some number isn't whole
 abbrev pub ReadsJson : Result Value JsonStop → List ℕ → Type 0

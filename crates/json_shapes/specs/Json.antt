@@ -1,4 +1,5 @@
--- JSON texts: what one reads as, whether its numbers are whole, and an object's one field.
+-- JSON texts by RFC 8259: what one reads as, whether its numbers are whole, and an object's one field. That standard leaves
+-- limits on nesting and numbers to readers, and what a repeated name means.
 use Rattle.std.specs.Prelude.{◌≡◌, ℕ, List, Option, Some, None, false, if◌then◌else◌}
 use Rattle.std.specs.Str.{is_utf8}
 use Rattle.serde_json.specs.Data.{Data, null, boolean, number, string, array, object, no_members, member}

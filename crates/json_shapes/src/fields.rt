@@ -55,10 +55,7 @@ pub fn field<F: Form>(alloc: Global, value: &Value, name: &str) -> Result<F, Sha
         Some(found) => F::read(alloc, found),
         None => Err(stop_for(alloc, F::want())),
     };
-    match read {
-        Ok(x) => Ok(x),
-        Err(stop) => Err(within(alloc, name, stop)),
-    }
+    within(alloc, name, read)
 }
 
 /// A field that has to be there, and may be null.
@@ -82,12 +79,9 @@ pub fn optional_field<F: Form>(
     ensures { Reads (λ x. option_map F.plain_view x) result
         (optional name.now F.form (view value.now)) }
 {
-    let Some(found) = value.get(name) else {
-        return Ok(None);
-    };
-    match Option::<F>::read(alloc, found) {
-        Ok(x) => Ok(x),
-        Err(stop) => Err(within(alloc, name, stop)),
+    match value.get(name) {
+        Some(found) => within(alloc, name, Option::<F>::read(alloc, found)),
+        None => Ok(None),
     }
 }
 

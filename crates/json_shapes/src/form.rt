@@ -140,23 +140,20 @@ impl<F: Form> Form for Vec<F> {
 
     fn read(alloc: Global, value: &Value) -> Result<Vec<F>, ShapeStop> {
         match value.as_array() {
-            Some(found) => each(alloc, found),
+            Some(found) => each(alloc, found.as_slice()),
             None => Err(stop_for(alloc, Want::List)),
         }
     }
 }
 
-/// Each item in the form.
-fn each<F: Form>(alloc: Global, items: &Vec<Value>) -> Result<Vec<F>, ShapeStop>
+/// Each item in the form, its place counted from 0.
+pub fn each<F: Form>(alloc: Global, items: &[Value]) -> Result<Vec<F>, ShapeStop>
     ensures { Reads (λ list. map F.plain_view list.items) result
-        (each F.form 0 (items_view items.now.items)) }
+        (each F.form 0 (items_view items.now)) }
 {
     let mut list = Vec::new(alloc);
     for (place, item) in items.iter().enumerate() {
-        match F::read(alloc, item) {
-            Ok(x) => list.push(x)?,
-            Err(stop) => return Err(within_place(alloc, place, stop)),
-        }
+        list.push(within_place(alloc, place, F::read(alloc, item))?)?;
     }
     Ok(list)
 }

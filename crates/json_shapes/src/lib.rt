@@ -18,7 +18,7 @@ pub use fields::{
     u64_at,
 };
 pub use floats::has_float;
-pub use form::{Binary, Form};
+pub use form::{Binary, Form, each};
 pub use json::{read_json, write_json};
 pub use paths::{stop_at, stop_for, within, within_place};
 pub use stop::{JsonStop, ShapeStop, Want};

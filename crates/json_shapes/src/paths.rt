@@ -1,6 +1,6 @@
-ghost use Rattle.std.specs.Prelude.{◌≡◌, ◌++◌, ◌∷◌, [], List, ℕ, IfOk, string_bytes};
-ghost use Rattle.json_shapes.specs.Answers.{Names, IsBehind};
-ghost use Rattle.json_shapes.specs.Shapes.{field_step, place_step, dotted, Fault};
+ghost use Rattle.std.specs.Prelude.{◌≡◌, ◌≢◌, ◌∷◌, [], IfOk, string_bytes};
+ghost use Rattle.json_shapes.specs.Answers.{Names, IsBehind, IsWithin};
+ghost use Rattle.json_shapes.specs.Shapes.{Step, Fault, field_step, place_step, step_text, dotted};
 
 use crate::stop::{ShapeStop, Want};
 use std::alloc::{AllocError, Global};
@@ -17,7 +17,8 @@ pub fn stop_at(alloc: Global, name: &str, want: Want) -> ShapeStop
 
 /// The stop where something else stands than what belongs there.
 pub fn stop_for(alloc: Global, want: Want) -> ShapeStop
-    ensures { Names result (record { path = []; want = want }) }
+    ensures names { Names result (record { path = []; want = want }) }
+    ensures shape { result ≢ ShapeStop.NoMemory }
 {
     ShapeStop::Shape {
         path: String::new(alloc),
@@ -37,31 +38,49 @@ fn dotted(alloc: Global, front: &str, rest: &str) -> Result<String, AllocError>
     Ok(path)
 }
 
-/// The stop of what stands in the field of this name.
-pub fn within(alloc: Global, name: &str, stop: ShapeStop) -> ShapeStop
-    ensures { IsBehind (field_step name.now) stop result }
+/// The stop with this step in front of its path.
+fn behind(alloc: Global, step: &str, stop: ShapeStop) -> ShapeStop
+    ensures { (at : Step) → step.now ≡ step_text at → IsBehind at stop result }
 {
     let ShapeStop::Shape { path, want } = stop else {
         return ShapeStop::NoMemory;
     };
-    match dotted(alloc, name, path.as_str()) {
+    match dotted(alloc, step, path.as_str()) {
         Ok(path) => ShapeStop::Shape { path, want },
         Err(_) => ShapeStop::NoMemory,
     }
 }
 
-/// The stop of what stands at this place of a list.
-pub fn within_place(alloc: Global, place: usize, stop: ShapeStop) -> ShapeStop
+/// The stop with this place in front of its path.
+fn behind_place(alloc: Global, place: usize, stop: ShapeStop) -> ShapeStop
     ensures { IsBehind (place_step place) stop result }
 {
-    let ShapeStop::Shape { path, want } = stop else {
-        return ShapeStop::NoMemory;
-    };
-    let Ok(step) = place.to_string(alloc) else {
-        return ShapeStop::NoMemory;
-    };
-    match dotted(alloc, step.as_str(), path.as_str()) {
-        Ok(path) => ShapeStop::Shape { path, want },
+    match place.to_string(alloc) {
+        Ok(step) => behind(alloc, step.as_str(), stop),
         Err(_) => ShapeStop::NoMemory,
+    }
+}
+
+/// What was read of the value in the field of this name: a stop's path has the name in front.
+pub fn within<T>(alloc: Global, name: &str, read: Result<T, ShapeStop>) -> Result<T, ShapeStop>
+    ensures { IsWithin (field_step name.now) read result }
+{
+    match read {
+        Ok(x) => Ok(x),
+        Err(stop) => Err(behind(alloc, name, stop)),
+    }
+}
+
+/// What was read at this place of a list: a stop's path has the place in front.
+pub fn within_place<T>(
+    alloc: Global,
+    place: usize,
+    read: Result<T, ShapeStop>,
+) -> Result<T, ShapeStop>
+    ensures { IsWithin (place_step place) read result }
+{
+    match read {
+        Ok(x) => Ok(x),
+        Err(stop) => Err(behind_place(alloc, place, stop)),
     }
 }

@@ -1,4 +1,4 @@
-ghost use Rattle.std.specs.Prelude.{◌≡◌, ◌≢◌, ℕ, List, option_map, option_and_then, string_bytes, IfOk, IfSome};
+ghost use Rattle.std.specs.Prelude.{◌≡◌, ◌≢◌, ℕ, List, None, option_map, option_and_then, string_bytes, IfOk, IfSome};
 ghost use Rattle.serde_json.specs.Find.{get, get_member, as_array};
 ghost use Rattle.serde_json.specs.View.{view, items_view, members_view};
 ghost use Rattle.json_shapes.specs.Answers.{Reads};
@@ -28,12 +28,13 @@ pub fn take_one_field(value: Value) -> Option<(String, Value)>
     }
 }
 
-/// Takes the list out of a field: its items as they are, and the value whose other fields are as they were.
+/// Takes the list out of a field: its items as they are, and the value without that field.
 pub fn take_list(alloc: Global, value: Value, name: &str) -> Result<(Vec<Value>, Value), ShapeStop>
     ensures list { Reads (λ taken. items_view taken.0.items) result
         (field name.now items (view value)) }
     ensures others { IfOk result (λ taken. (other : List ℕ) → other ≢ name.now
         → get other (view taken.1) ≡ get other (view value)) }
+    ensures gone { IfOk result (λ taken. get name.now (view taken.1) ≡ None) }
 {
     match cut_list(value, name) {
         Some(cut) => Ok(cut),
@@ -41,12 +42,13 @@ pub fn take_list(alloc: Global, value: Value, name: &str) -> Result<(Vec<Value>,
     }
 }
 
-/// The list in a field, and the value whose other fields are as they were.
+/// The list in a field, and the value without that field.
 fn cut_list(value: Value, name: &str) -> Option<(Vec<Value>, Value)>
     ensures list { option_map (λ cut. items_view cut.0.items) result
         ≡ option_and_then as_array (get name.now (view value)) }
     ensures others { IfSome result (λ cut. (other : List ℕ) → other ≢ name.now
         → get other (view cut.1) ≡ get other (view value)) }
+    ensures gone { IfSome result (λ cut. get name.now (view cut.1) ≡ None) }
 {
     let Value::Object(mut members) = value else {
         return None;
@@ -63,6 +65,7 @@ fn take_member(members: &mut Map<String, Value>, name: &str) -> Option<Value>
     ensures others { (other : List ℕ) → other ≢ name.now
         → get_member other (members_view members.new.entries)
         ≡ get_member other (members_view members.old.entries) }
+    ensures gone { get_member name.now (members_view members.new.entries) ≡ None }
 {
     members.remove(name)
 }

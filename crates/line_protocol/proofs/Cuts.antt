@@ -4,8 +4,8 @@ use Rattle.serde_json.specs.Data.{Data, Items}
 use Rattle.serde_json.specs.Find.{get, as_array}
 use Rattle.serde_json.specs.View.{view, items_view}
 use Rattle.serde_json.specs.declared.value.Value.{Value}
-use Rattle.json_shapes.specs.Answers.{Reads, IsStopOf, IsBehind}
-use Rattle.json_shapes.specs.Shapes.{Form, Reading, Step, ◌>>=◌, mapped, behind, within, field_step, found, items, each, list, field, dotted, step_text}
+use Rattle.json_shapes.specs.Answers.{Reads, IsStopOf}
+use Rattle.json_shapes.specs.Shapes.{Form, Reading, ◌>>=◌, mapped, within, field_step, found, items, each, list, field}
 use Rattle.json_shapes.specs.declared.stop.ShapeStop.{ShapeStop}
 use Rattle.json_shapes.specs.declared.stop.ShapeStop.TheVariants.{Shape, NoMemory}
 use Rattle.json_shapes.specs.declared.stop.Want.TheVariants.{List as ListWant}
@@ -22,7 +22,7 @@ Cut = Vec Value Global × Value
 pub reads_values : (r : Result Cut ShapeStop) (o : Reading Items) → Reads (λ cut. items_view cut.0.items) r o → Reads (λ cut. map view cut.0.items) r (mapped values_of o)
 reads_values (Ok cut) o read = ap (mapped values_of) read ∙ ap Ok (values_view cut.0.items)
 reads_values (Err NoMemory) o read = tt
-reads_values (Err (Shape path want)) o read = (read.0, ap (mapped values_of) read.1, read.2, read.3)
+reads_values (Err (Shape path want)) o read = (read.0, ap (mapped values_of) read.1, read.2)
 
 pub payer_same : (d rest : Data) → get (codes "sender") rest ≡ get (codes "sender") d → get (codes "gas") rest ≡ get (codes "gas") d → payer_of rest ≡ payer_of d
 unfolding payer_of
@@ -34,13 +34,10 @@ sender_is_not_msgs e = cc
 pub gas_is_not_msgs : codes "gas" ≢ codes "msgs"
 gas_is_not_msgs e = cc
 
-pub time_is_not_txs : codes "time" ≢ codes "txs"
-time_is_not_txs e = cc
-
 -- ---- a list that was taken out, and then read item by item
 
 -- what the items of a list say that stands in the field of this name
-abbrev pub in_list : {A : Type 0} → List ℕ → Form A → Items → Reading (List A)
+abbrev in_list : {A : Type 0} → List ℕ → Form A → Items → Reading (List A)
 in_list name form ds = within (field_step name) (each form 0 ds)
 
 items_then : {A : Type 0} (name : List ℕ) (form : Form A) (o : Option Items)
@@ -53,21 +50,10 @@ value_then : {A : Type 0} (name : List ℕ) (form : Form A) (o : Option Data)
 value_then name form None = refl
 value_then name form (Some d) = items_then name form (as_array d)
 
-pub list_then : {A : Type 0} (name : List ℕ) (form : Form A) (d : Data) → field name (list form) d ≡ (field name items d >>= in_list name form)
+list_then : {A : Type 0} (name : List ℕ) (form : Form A) (d : Data) → field name (list form) d ≡ (field name items d >>= in_list name form)
 list_then name form d = value_then name form (get name d)
 
 -- where there is no list, nothing is read of it
 pub no_list : {A : Type 0} (name : List ℕ) (form : Form A) (d : Data) (stop : ShapeStop) → IsStopOf stop (field name items d) → IsStopOf stop (field name (list form) d)
 no_list name form d NoMemory none = tt
-no_list name form d (Shape path want) none = (none.0, list_then name form d ∙ ap (λ r. r >>= in_list name form) none.1, none.2, none.3)
-
-pub stop_of : {A : Type 0} (stop : ShapeStop) (r s : Reading A) → r ≡ s → IsStopOf stop s → IsStopOf stop r
-stop_of NoMemory r s is none = tt
-stop_of (Shape path want) r s is none = (none.0, is ∙ none.1, none.2, none.3)
-
--- a stop behind a step
-pub stop_behind : {A : Type 0} (step : Step) (stop longer : ShapeStop) (r : Reading A) → IsStopOf stop r → IsBehind step stop longer → IsStopOf longer (within step r)
-stop_behind step NoMemory longer r none is = rw is tt
-stop_behind step (Shape path want) NoMemory r none is = tt
-stop_behind step (Shape path want) (Shape longer same) r none is =
-    (behind step none.0, ap (within step) none.1, is.0 ∙ ap (dotted (step_text step)) none.2, is.1 ∙ none.3)
+no_list name form d (Shape path want) none = (none.0, list_then name form d ∙ ap (λ r. r >>= in_list name form) none.1, none.2)

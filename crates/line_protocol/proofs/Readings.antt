@@ -1,5 +1,5 @@
 -- What is read, without where a fault lies.
-use Rattle.std.proofs.Common.{◌≡◌, ◌∙◌, false, ℕ, List, Option, None, Some, Result, Ok, Err, refl, ap}
+use Rattle.std.proofs.Common.{◌≡◌, ◌∙◌, false, ℕ, List, Option, Some, Result, Ok, Err, refl, ap}
 use Rattle.std.specs.List.{list_all}
 use Rattle.serde_json.specs.Data.{Data}
 use Rattle.json_shapes.specs.Answers.{Reads as ReadsShape, ReadsJson}

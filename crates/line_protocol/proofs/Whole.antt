@@ -1,5 +1,5 @@
 -- What is written has no number but integers.
-use Rattle.std.proofs.Common.{◌≡◌, false, List, ℕ, map, codes, refl}
+use Rattle.std.proofs.Common.{◌≡◌, false, List, ℕ, codes, refl}
 use Rattle.serde_json.specs.Data.{Data, string, object, member, no_members}
 use Rattle.serde_json.specs.Written.{has_float}
 use Rattle.json_shapes.specs.Values.{variant_data}

@@ -45,10 +45,7 @@ fn txs_of(alloc: Global, items: Vec<Value>) -> Result<Vec<Tx>, ShapeStop>
 {
     let mut txs = Vec::new(alloc);
     for item in items {
-        match tx_of(alloc, item) {
-            Ok(read) => txs.push(read)?,
-            Err(stop) => return Err(within_place(alloc, txs.len(), stop)),
-        }
+        txs.push(within_place(alloc, txs.len(), tx_of(alloc, item))?)?;
     }
     Ok(txs)
 }
@@ -61,10 +58,8 @@ fn cut_txs(alloc: Global, value: Value) -> Result<(Vec<Tx>, Value), ShapeStop>
         ≡ decimal_at (codes "time") (view value)) }
 {
     let (items, rest) = take_list(alloc, value, "txs")?;
-    match txs_of(alloc, items) {
-        Ok(txs) => Ok((txs, rest)),
-        Err(stop) => Err(within(alloc, "txs", stop)),
-    }
+    let txs = within(alloc, "txs", txs_of(alloc, items))?;
+    Ok((txs, rest))
 }
 
 /// What a block line says.

@@ -86,14 +86,8 @@ fn named_act(alloc: Global, name: &str, inner: &Value) -> Result<Act, ShapeStop>
     ensures { Reads ⟦<Act as Form>⟧.plain_view result (named_act (name.now, view inner.now)) }
 {
     match name {
-        "send" => match send_of(alloc, inner) {
-            Ok(act) => Ok(act),
-            Err(stop) => Err(within(alloc, "send", stop)),
-        },
-        "burn" => match burn_of(alloc, inner) {
-            Ok(act) => Ok(act),
-            Err(stop) => Err(within(alloc, "burn", stop)),
-        },
+        "send" => within(alloc, "send", send_of(alloc, inner)),
+        "burn" => within(alloc, "burn", burn_of(alloc, inner)),
         _ => Err(stop_for(alloc, Want::Variant)),
     }
 }

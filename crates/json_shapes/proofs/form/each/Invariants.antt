@@ -7,4 +7,4 @@ use Rattle.json_shapes.proofs.form.each.Given as goal
 
 abbrev pub invariant-loop-place : goal.invariant-loop-place
 invariant-loop-place g l =
-    with_front (map g.F.Form.plain_view l.list.items) (each g.F.Form.form l.place (items_view (drop l.place l.items.items))) ≡ each g.F.Form.form 0 (items_view l.items.items)
+    with_front (map g.F.Form.plain_view l.list.items) (each g.F.Form.form l.place (items_view (drop l.place l.items))) ≡ each g.F.Form.form 0 (items_view l.items)

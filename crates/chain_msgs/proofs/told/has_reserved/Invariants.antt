@@ -2,7 +2,7 @@
 use Rattle.std.proofs.Common.{◌≡◌, map, drop}
 use Rattle.chain_msgs.specs.Plain.{attribute_view}
 use Rattle.chain_msgs.specs.Answers.{has_reserved}
-use Rattle.chain_msgs.proofs.answers.has_reserved.Given as goal
+use Rattle.chain_msgs.proofs.told.has_reserved.Given as goal
 
 abbrev pub invariant-loop-attribute : goal.invariant-loop-attribute
 invariant-loop-attribute l =

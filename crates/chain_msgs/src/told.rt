@@ -133,14 +133,8 @@ fn named_told<F: Form>(alloc: Global, name: &str, inner: &Value) -> Result<Told<
     ensures { Reads (told_view F.plain_view) result (named_told F.form (name.now, view inner.now)) }
 {
     match name {
-        "ok" => match F::read(alloc, inner) {
-            Ok(x) => Ok(Told::Ok(x)),
-            Err(stop) => Err(within(alloc, "ok", stop)),
-        },
-        "error" => match String::read(alloc, inner) {
-            Ok(text) => Ok(Told::Error(text)),
-            Err(stop) => Err(within(alloc, "error", stop)),
-        },
+        "ok" => Ok(Told::Ok(within(alloc, "ok", F::read(alloc, inner))?)),
+        "error" => Ok(Told::Error(within(alloc, "error", String::read(alloc, inner))?)),
         _ => Err(stop_for(alloc, Want::Variant)),
     }
 }

@@ -1,6 +1,0 @@
-use Rattle.std.proofs.Common.{sym}
-use Rattle.serde_json.proofs.Views.{items_len-items_view}
-use Rattle.chain_msgs.proofs.tx_msg.count_of.Goals as goal
-
-pub returns : goal.returns
-returns c = sym (items_len-items_view c.args.list.now)
