@@ -209,7 +209,30 @@ fn expect_field(
     Ok(())
 }
 
-/// Each field missing, null and of another type, with those behind it missing, is told at its path, or may be so.
+/// The field right, missing, null and of another type, with those behind it missing, is told at its path, or may be so.
+fn expect_field_at(
+    rt: &impl Abort,
+    alloc: Global,
+    place: Place,
+    fields: &[Field],
+    at: usize,
+    field: Field,
+) -> Result<(), Fail> {
+    let missing = field.3 == May::BeMissing;
+    let null = missing || field.3 == May::BeNull;
+    for (given, fine) in [
+        (field.1, true),
+        ("", missing),
+        ("null", null),
+        ("{}", false),
+    ] {
+        let text = text_with(alloc, place, fields, at, given, fine)?;
+        expect_field(rt, alloc, place, field, text.as_str(), fine)?;
+    }
+    Ok(())
+}
+
+/// Each field of the form is looked at.
 fn expect_fields(
     rt: &impl Abort,
     alloc: Global,
@@ -217,17 +240,15 @@ fn expect_fields(
     fields: &[Field],
 ) -> Result<(), Fail> {
     for (at, field) in fields.iter().enumerate() {
-        let missing = field.3 == May::BeMissing;
-        let null = missing || field.3 == May::BeNull;
-        for (given, fine) in [
-            (field.1, true),
-            ("", missing),
-            ("null", null),
-            ("{}", false),
-        ] {
-            let text = text_with(alloc, place, fields, at, given, fine)?;
-            expect_field(rt, alloc, place, *field, text.as_str(), fine)?;
-        }
+        expect_field_at(rt, alloc, place, fields, at, *field)?;
+    }
+    Ok(())
+}
+
+/// The fields of each form are looked at.
+fn expect_forms(rt: &impl Abort, alloc: Global, forms: &[(Place, &[Field])]) -> Result<(), Fail> {
+    for (place, fields) in forms {
+        expect_fields(rt, alloc, *place, fields)?;
     }
     Ok(())
 }
@@ -242,21 +263,20 @@ const BINARY: &str = "a text in base64";
 
 const VARIANT: &str = "an object of one field";
 
-#[test]
-fn fields_of_messages_have_to_be_right(rt: HostRuntime) -> Result<(), Fail> {
-    let alloc = rt.alloc();
-    expect_fields(
-        &rt,
-        alloc,
+/// The forms of messages: where each stands, and its fields in order.
+const MESSAGES: &[(Place, &[Field])] = &[
+    (
         ("message", r#"{"bank":{"send":"#, "}}", "bank.send."),
         &[
             ("to_address", "\"a\"", TEXT, May::HasToBe),
             ("amount", "[]", LIST, May::HasToBe),
         ],
-    )?;
-    expect_fields(
-        &rt,
-        alloc,
+    ),
+    (
+        ("message", r#"{"bank":{"burn":"#, "}}", "bank.burn."),
+        &[("amount", "[]", LIST, May::HasToBe)],
+    ),
+    (
         (
             "message",
             r#"{"bank":{"burn":{"amount":[{"denom":"u","amount":""},"#,
@@ -267,20 +287,16 @@ fn fields_of_messages_have_to_be_right(rt: HostRuntime) -> Result<(), Fail> {
             ("denom", "\"a\"", TEXT, May::HasToBe),
             ("amount", "\"1\"", TEXT, May::HasToBe),
         ],
-    )?;
-    expect_fields(
-        &rt,
-        alloc,
+    ),
+    (
         ("message", r#"{"wasm":{"execute":"#, "}}", "wasm.execute."),
         &[
             ("contract_addr", "\"a\"", TEXT, May::HasToBe),
             ("msg", "\"\"", BINARY, May::HasToBe),
             ("funds", "[]", LIST, May::HasToBe),
         ],
-    )?;
-    expect_fields(
-        &rt,
-        alloc,
+    ),
+    (
         (
             "message",
             r#"{"wasm":{"instantiate2":"#,
@@ -295,10 +311,8 @@ fn fields_of_messages_have_to_be_right(rt: HostRuntime) -> Result<(), Fail> {
             ("label", "\"\"", TEXT, May::HasToBe),
             ("salt", "\"\"", BINARY, May::HasToBe),
         ],
-    )?;
-    expect_fields(
-        &rt,
-        alloc,
+    ),
+    (
         (
             "message",
             r#"{"wasm":{"instantiate":"#,
@@ -312,20 +326,16 @@ fn fields_of_messages_have_to_be_right(rt: HostRuntime) -> Result<(), Fail> {
             ("funds", "[]", LIST, May::HasToBe),
             ("label", "\"\"", TEXT, May::HasToBe),
         ],
-    )?;
-    expect_fields(
-        &rt,
-        alloc,
+    ),
+    (
         ("message", r#"{"wasm":{"migrate":"#, "}}", "wasm.migrate."),
         &[
             ("contract_addr", "\"a\"", TEXT, May::HasToBe),
             ("new_code_id", "1", NUMBER, May::HasToBe),
             ("msg", "\"\"", BINARY, May::HasToBe),
         ],
-    )?;
-    expect_fields(
-        &rt,
-        alloc,
+    ),
+    (
         (
             "message",
             r#"{"wasm":{"update_admin":"#,
@@ -336,10 +346,8 @@ fn fields_of_messages_have_to_be_right(rt: HostRuntime) -> Result<(), Fail> {
             ("contract_addr", "\"a\"", TEXT, May::HasToBe),
             ("admin", "\"a\"", TEXT, May::HasToBe),
         ],
-    )?;
-    expect_fields(
-        &rt,
-        alloc,
+    ),
+    (
         (
             "message",
             r#"{"wasm":{"clear_admin":"#,
@@ -347,40 +355,39 @@ fn fields_of_messages_have_to_be_right(rt: HostRuntime) -> Result<(), Fail> {
             "wasm.clear_admin.",
         ),
         &[("contract_addr", "\"a\"", TEXT, May::HasToBe)],
-    )?;
-    expect_fields(
-        &rt,
-        alloc,
+    ),
+    (
         ("message", r#"{"store_code":"#, "}", "store_code."),
         &[
             ("allow", "[]", LIST, May::BeMissing),
             ("code", "\"\"", BINARY, May::HasToBe),
         ],
-    )?;
-    expect_fields(
-        &rt,
-        alloc,
+    ),
+    (
+        ("message", r#"{"pin_code":"#, "}", "pin_code."),
+        &[("ids", "[1]", LIST, May::HasToBe)],
+    ),
+    (
         ("message", r#"{"unpin_code":"#, "}", "unpin_code."),
         &[("ids", "[1]", LIST, May::HasToBe)],
-    )?;
-    expect_fields(
-        &rt,
-        alloc,
+    ),
+    (
         ("message", r#"{"sudo":"#, "}", "sudo."),
         &[
             ("contract", "\"a\"", TEXT, May::HasToBe),
             ("msg", "\"\"", BINARY, May::HasToBe),
         ],
-    )?;
-    Ok(())
-}
+    ),
+];
 
 #[test]
-fn fields_of_responses_have_to_be_right(rt: HostRuntime) -> Result<(), Fail> {
-    let alloc = rt.alloc();
-    expect_fields(
-        &rt,
-        alloc,
+fn fields_of_messages_have_to_be_right(rt: HostRuntime) -> Result<(), Fail> {
+    expect_forms(&rt, rt.alloc(), MESSAGES)
+}
+
+/// The forms of responses.
+const RESPONSES: &[(Place, &[Field])] = &[
+    (
         ("response", r#"{"ok":"#, "}", "ok."),
         &[
             ("messages", "[]", LIST, May::BeMissing),
@@ -388,10 +395,8 @@ fn fields_of_responses_have_to_be_right(rt: HostRuntime) -> Result<(), Fail> {
             ("events", "[]", LIST, May::BeMissing),
             ("data", "\"\"", BINARY, May::BeMissing),
         ],
-    )?;
-    expect_fields(
-        &rt,
-        alloc,
+    ),
+    (
         (
             "response",
             r#"{"ok":{"messages":["#,
@@ -404,10 +409,8 @@ fn fields_of_responses_have_to_be_right(rt: HostRuntime) -> Result<(), Fail> {
             ("gas_limit", "1", NUMBER, May::BeMissing),
             ("reply_on", "\"never\"", TEXT, May::HasToBe),
         ],
-    )?;
-    expect_fields(
-        &rt,
-        alloc,
+    ),
+    (
         (
             "response",
             r#"{"ok":{"attributes":["#,
@@ -418,17 +421,19 @@ fn fields_of_responses_have_to_be_right(rt: HostRuntime) -> Result<(), Fail> {
             ("key", "\"a\"", TEXT, May::HasToBe),
             ("value", "\"\"", TEXT, May::HasToBe),
         ],
-    )?;
-    expect_fields(
-        &rt,
-        alloc,
+    ),
+    (
         ("response", r#"{"ok":{"events":["#, "]}}", "ok.events.0."),
         &[
             ("type", "\"ab\"", TEXT, May::HasToBe),
             ("attributes", "[]", LIST, May::HasToBe),
         ],
-    )?;
-    Ok(())
+    ),
+];
+
+#[test]
+fn fields_of_responses_have_to_be_right(rt: HostRuntime) -> Result<(), Fail> {
+    expect_forms(&rt, rt.alloc(), RESPONSES)
 }
 
 #[test]
