@@ -1,0 +1,6 @@
+//! The registry of codes: which of them are pinned.
+#![tactic(auto)]
+
+mod pins;
+
+pub use pins::pinned;
