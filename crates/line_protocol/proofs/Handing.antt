@@ -1,7 +1,7 @@
 -- What the gathered bytes say of the bytes that were waiting before.
-use Rattle.std.proofs.Common.{Result, Ok, Err, IfErr, IsErrAnd, inr, true, ◌∷◌, ◌≡◌, ℕ, suc, ◌+◌, ◌-◌, ◌<◌, ◌≤◌, ◌⊎◌, Option, None, Some, List, [], ◌++◌, length, get_or, take, drop, refl, sym, ap, ◌∙◌, arith, length-take, append-nil, append_assoc, add-one}
+use Rattle.std.proofs.Common.{subst, Result, Ok, Err, IfErr, IsErrAnd, inr, true, ◌∷◌, ◌≡◌, ℕ, suc, ◌+◌, ◌-◌, ◌<◌, ◌≤◌, ◌⊎◌, Option, None, Some, List, [], ◌++◌, length, get_or, take, drop, refl, sym, ap, ◌∙◌, arith, length-take, append-nil, append_assoc, add-one}
 use Rattle.std.proofs.KnownBytes.{Consumes-trans}
-use Rattle.std.specs.Io.KnownBytes.{IsAtEnd, prepend_known}
+use Rattle.std.specs.Io.KnownBytes.{IsAtEnd, Keeps, prepend_known}
 use Rattle.line_protocol.specs.declared.kind.BadKind.{BadKind}
 use Rattle.line_protocol.specs.declared.kind.BadKind.TheVariants.{Total, Long}
 use Rattle.line_protocol.specs.declared.lines.LineStop.{LineStop}
@@ -10,8 +10,8 @@ use Rattle.line_protocol.specs.declared.lines.RawLine.{RawLine}
 use Rattle.line_protocol.specs.declared.lines.Lines.{Lines}
 use Rattle.line_protocol.specs.Outcome.{IfLine, IfNoLine}
 use Rattle.line_protocol.specs.Progress.{kept, IsEndedLine}
-use Rattle.line_protocol.specs.Gathering.{IsUnfed, Draws, TakesUnfed, IsSizeStop, IsBad}
-use Rattle.line_protocol.specs.Lines.{raws_of, HandsOut, too_large, oversize}
+use Rattle.line_protocol.specs.Gathering.{IsUnfed, Draws, TakesUnfed, IsSizeStop, IsBad, IsShown}
+use Rattle.line_protocol.specs.Lines.{raws_of, HandsOut, too_large, oversize, StopsAt}
 use Rattle.line_protocol.proofs.Feeds.{raws-fed, raws-rest}
 use Rattle.std.proofs.lemmas.Bool.Decides.{nat_tests}
 
@@ -47,6 +47,24 @@ large_at y before at kind within large =
 too_large_kind : (before len size : ℕ) (kind : BadKind) → too_large before len size ≡ Some kind → (kind ≡ Total) ⊎ (kind ≡ Long)
 too_large_kind before len size kind large = grind (arith, nat_tests)
 
+-- a line that a line feed ends, and that is too large
+stops_fed : (y more : List ℕ) (before at : ℕ) (kind : BadKind) → at < length y → get_or y at 0 ≡ 10 → IsUnfed y 0 at → too_large before at (at + 1) ≡ Some kind → StopsAt (y ++ more) before kind
+stops_fed y more before at kind within fed unfed large = record {
+  raw = record { text = take at y; size = suc at };
+  later = raws_of (drop (suc at) y ++ more);
+  first = raws-fed y more at within fed unfed;
+  large = large_at y before at kind (omega arith) large;
+}
+
+-- the input's last line, where it is too large
+stops_last : (y : List ℕ) (before : ℕ) (kind : BadKind) → 0 < length y → IsUnfed y 0 (length y) → too_large before (length y) (length y) ≡ Some kind → StopsAt y before kind
+stops_last y before kind some unfed large = record {
+  raw = record { text = y; size = length y };
+  later = [];
+  first = raws-rest y some unfed;
+  large = large;
+}
+
 pub bad_fed : (a b : Option (List ℕ)) (x y : List ℕ) (before at number : ℕ) (stop : LineStop) → Draws a b x y → at < length y → get_or y at 0 ≡ 10 → IsUnfed y 0 at
     → IsSizeStop before at (at + 1) number stop → IsBad (prepend_known x a) before number stop
 bad_fed a b x y before at number NoMemory drawn within fed unfed stopped = tt
@@ -56,13 +74,15 @@ bad_fed (Some xs) None x y before at number (Bad n kind) drawn within fed unfed 
 bad_fed (Some xs) (Some ys) x y before at number (Bad n kind) drawn within fed unfed stopped = (
   stopped.0,
   too_large_kind before at (at + 1) kind stopped.1,
-  record {
-    raw = record { text = take at y; size = suc at };
-    later = raws_of (drop (suc at) y ++ ys);
-    first = ap raws_of (drawn_whole xs ys x y drawn.taken drawn.from drawn.onto) ∙ raws-fed y ys at within fed unfed;
-    large = large_at y before at kind (omega arith) stopped.1;
-  },
+  rw (drawn_whole xs ys x y drawn.taken drawn.from drawn.onto) (stops_fed y ys before at kind within fed unfed stopped.1),
 )
+
+pub shown_fed : (a b : Option (List ℕ)) (x y : List ℕ) (before at number : ℕ) (stop : LineStop) → Draws a b x y → at < length y → get_or y at 0 ≡ 10 → IsUnfed y 0 at
+    → IsSizeStop before at (at + 1) number stop → IsShown a b x before stop
+shown_fed a b x y before at number NoMemory drawn within fed unfed stopped = tt
+shown_fed a b x y before at number ReadFault drawn within fed unfed stopped = tt
+shown_fed a b x y before at number (Bad n kind) drawn within fed unfed stopped =
+    (drawn.taken, drawn.from, subst (λ l. StopsAt l before kind) (append-nil y ∙ drawn.onto) (stops_fed y [] before at kind within fed unfed stopped.1))
 
 pub bad_rest : (a b : Option (List ℕ)) (x y : List ℕ) (before number : ℕ) (stop : LineStop) → Draws a b x y → IsAtEnd b → 0 < length y → IsUnfed y 0 (length y)
     → IsSizeStop before (length y) (length y) number stop → IsBad (prepend_known x a) before number stop
@@ -73,13 +93,15 @@ bad_rest (Some xs) None x y before number (Bad n kind) drawn end some unfed stop
 bad_rest (Some xs) (Some ys) x y before number (Bad n kind) drawn end some unfed stopped = (
   stopped.0,
   too_large_kind before (length y) (length y) kind stopped.1,
-  record {
-    raw = record { text = y; size = length y };
-    later = [];
-    first = ap raws_of (drawn_whole xs ys x y drawn.taken drawn.from drawn.onto ∙ ap (λ l. y ++ l) end ∙ append-nil y) ∙ raws-rest y some unfed;
-    large = stopped.1;
-  },
+  rw (drawn_whole xs ys x y drawn.taken drawn.from drawn.onto ∙ ap (λ l. y ++ l) end ∙ append-nil y) (stops_last y before kind some unfed stopped.1),
 )
+
+shown_rest : (a b : Option (List ℕ)) (x y : List ℕ) (before number : ℕ) (stop : LineStop) → Draws a b x y → 0 < length y → IsUnfed y 0 (length y)
+    → IsSizeStop before (length y) (length y) number stop → IsShown a b x before stop
+shown_rest a b x y before number NoMemory drawn some unfed stopped = tt
+shown_rest a b x y before number ReadFault drawn some unfed stopped = tt
+shown_rest a b x y before number (Bad n kind) drawn some unfed stopped =
+    (drawn.taken, drawn.from, subst (λ l. StopsAt l before kind) drawn.onto (stops_last y before kind some unfed stopped.1))
 
 -- a stop seen from later bytes is one of the earlier
 pub bad_drawn : (a b : Option (List ℕ)) (x y : List ℕ) (before number : ℕ) (stop : LineStop) → Draws a b x y → IsBad (prepend_known y b) before number stop → IsBad (prepend_known x a) before number stop
@@ -89,14 +111,22 @@ bad_drawn None b x y before number (Bad n kind) drawn bad = (bad.0, bad.1, tt)
 bad_drawn (Some xs) None x y before number (Bad n kind) drawn bad = absurd drawn.from
 bad_drawn (Some xs) (Some ys) x y before number (Bad n kind) drawn bad = (bad.0, bad.1, rw (drawn_whole xs ys x y drawn.taken drawn.from drawn.onto) bad.2)
 
+drawn_more : (x y taken more : List ℕ) → y ≡ x ++ taken → x ++ (taken ++ more) ≡ y ++ more
+drawn_more x y taken more onto = sym (append_assoc x taken more) ∙ ap (λ l. l ++ more) (sym onto)
+
 pub TakesUnfed-drawn : (a b c : Option (List ℕ)) (x y : List ℕ) → Draws a b x y → TakesUnfed b c y → TakesUnfed a c x
-TakesUnfed-drawn a b c x y drawn more =
-    let same : x ++ (drawn.taken ++ more.taken) ≡ y ++ more.taken = sym (append_assoc x drawn.taken more.taken) ∙ ap (λ l. l ++ more.taken) (sym drawn.onto) in
-    record {
-      taken = drawn.taken ++ more.taken;
-      from = Consumes-trans a b c drawn.taken more.taken drawn.from more.from;
-      unfed = rw same more.unfed;
-    }
+TakesUnfed-drawn a b c x y drawn more = record {
+  taken = drawn.taken ++ more.taken;
+  from = Consumes-trans a b c drawn.taken more.taken drawn.from more.from;
+  unfed = rw (drawn_more x y drawn.taken more.taken drawn.onto) more.unfed;
+}
+
+-- a refusal that later bytes show is shown by the earlier and those taken in between
+pub shown_drawn : (a b c : Option (List ℕ)) (x y : List ℕ) (before : ℕ) (stop : LineStop) → Draws a b x y → IsShown b c y before stop → IsShown a c x before stop
+shown_drawn a b c x y before NoMemory drawn shown = tt
+shown_drawn a b c x y before ReadFault drawn shown = tt
+shown_drawn a b c x y before (Bad n kind) drawn (more, from, stops) =
+    (drawn.taken ++ more, Consumes-trans a b c drawn.taken more drawn.from from, rw (drawn_more x y drawn.taken more drawn.onto) stops)
 
 -- the input's last line, as a look for it gives it
 pub lines_rest : (r : Result (Option RawLine) LineStop) (a b : Option (List ℕ)) (x y rest : List ℕ) (size : ℕ) → Draws a b x y → IsAtEnd b → IsUnfed y 0 (length y)
@@ -117,6 +147,11 @@ pub stops_rest : (r : Result (Option RawLine) LineStop) (a b : Option (List ℕ)
     → IfErr r (λ _. 0 < length y) → IfErr r (IsSizeStop before (length y) (length y) number) → IfErr r (IsBad (prepend_known x a) before number)
 stops_rest (Ok next) a b x y before number drawn end unfed some stopped = tt
 stops_rest (Err stop) a b x y before number drawn end unfed some stopped = bad_rest a b x y before number stop drawn end some unfed stopped
+
+pub shows_rest : (r : Result (Option RawLine) LineStop) (a b : Option (List ℕ)) (x y : List ℕ) (before number : ℕ) → Draws a b x y → IsUnfed y 0 (length y)
+    → IfErr r (λ _. 0 < length y) → IfErr r (IsSizeStop before (length y) (length y) number) → IfErr r (IsShown a b x before)
+shows_rest (Ok next) a b x y before number drawn unfed some stopped = tt
+shows_rest (Err stop) a b x y before number drawn unfed some stopped = shown_rest a b x y before number stop drawn some unfed stopped
 
 pub bad_at : (waiting : Option (List ℕ)) (stop : LineStop) {before before' number number' : ℕ} → before ≡ before' → number ≡ number' → IsBad waiting before number stop
     → IsBad waiting before' number' stop
@@ -144,6 +179,21 @@ pub nothing_kept : (r : Result (Option RawLine) LineStop) (a b : Option (List �
 nothing_kept (Err stop) a b x y drawn none = tt
 nothing_kept (Ok (Some line)) a b x y drawn none = tt
 nothing_kept (Ok None) a b x y drawn none = none_before x drawn.taken (sym drawn.onto ∙ none)
+
+none_behind : (front more : List ℕ) → front ++ more ≡ [] → more ≡ []
+none_behind [] more none = none
+none_behind (b ∷ front) more none = absurd cc
+
+nothing_taken : (a b : Option (List ℕ)) (x y : List ℕ) → Draws a b x y → y ≡ [] → Keeps a b
+nothing_taken None b x y drawn none = tt
+nothing_taken (Some xs) None x y drawn none = absurd drawn.from
+nothing_taken (Some xs) (Some ys) x y drawn none = sym (drawn.from ∙ ap (λ l. l ++ ys) (none_behind x drawn.taken (sym drawn.onto ∙ none)))
+
+-- nor was anything taken
+pub spent_rest : (r : Result (Option RawLine) LineStop) (a b : Option (List ℕ)) (x y : List ℕ) → Draws a b x y → IfNoLine r (y ≡ []) → IfNoLine r (Keeps a b)
+spent_rest (Err stop) a b x y drawn none = tt
+spent_rest (Ok (Some line)) a b x y drawn none = tt
+spent_rest (Ok None) a b x y drawn none = nothing_taken a b x y drawn none
 
 -- what holds of a stop holds of a result that is its error
 pub err_is : (P : LineStop → Type 0) (r : Result (Option RawLine) LineStop) (stop : LineStop) → IsErrAnd r (λ found. found ≡ stop) → P stop → IfErr r P

@@ -3,5 +3,5 @@ pub mod Skips
 pub mod Handing
 pub mod Cuts
 pub mod Objects
-pub mod Readings
 pub mod Whole
+pub mod Blocks

@@ -5,7 +5,7 @@ use Rattle.std.proofs.lemmas.List.{get_or_append_left, get_or-append_right}
 use Rattle.std.proofs.KnownBytes.{Consumes-trans}
 use Rattle.std.specs.Io.KnownBytes.{Consumes, IsAtEnd}
 use Rattle.memchr.specs.Find.{Passes, is_byte, NoneBefore, Nowhere}
-use Rattle.line_protocol.specs.Gathering.{IsUnfed, IsSkipped, Measures}
+use Rattle.line_protocol.specs.Gathering.{IsUnfed, IsSkipped, IsPassed, Measures}
 use Rattle.line_protocol.specs.Lines.{Raw, raws_of, max_input, with_first}
 use Rattle.line_protocol.proofs.Feeds.{raws-fed, raws-rest, unfed_tail, after_other, unfed_before, unfed_len, fed_at}
 
@@ -43,11 +43,63 @@ longer (x ∷ []) b some unfed = single x (raws_of b) b (after_other x (raws_of 
 longer (x ∷ y ∷ a) b some unfed =
     longer_first x (y ∷ a ++ b) (length (y ∷ a)) (after_other x (raws_of (y ∷ a ++ b)) (unfed zero (omega arith) (omega arith))) (longer (y ∷ a) b (omega arith) (unfed_tail x (y ∷ a) (length (y ∷ a)) unfed))
 
+-- ---- lines that begin with bytes that have no line feed
+
+bare : (front taken : List ℕ) (len : ℕ) → length front ≡ len → IsUnfed front 0 len → IsUnfed taken 0 (length taken) → IsUnfed (front ++ taken) 0 (length (front ++ taken))
+bare front taken len is unfed rest =
+    let whole : IsUnfed front 0 (length front) = rw is unfed in
+    unfed_len _ _ _ (length-append front taken) (unfed_append front taken (length taken) whole rest)
+
+-- no more bytes stand behind them
+rest_measures : (front taken : List ℕ) (before len size : ℕ) → 0 < len → length front ≡ len → IsUnfed front 0 len → IsUnfed taken 0 (length taken) → size ≡ len + length taken
+    → Measures (front ++ taken) before len size
+rest_measures front taken before len size some is unfed rest counted =
+    let all : length (front ++ taken) ≡ length front + length taken = length-append front taken in
+    record {
+      raw = record { text = front ++ taken; size = length (front ++ taken) };
+      later = [];
+      first = raws-rest (front ++ taken) (omega (arith, all)) (bare front taken len is unfed rest);
+      long = omega (arith, all);
+      size = inl (omega (arith, all, counted));
+    }
+
+-- the input is too large already
+over_measures : (front taken more : List ℕ) (before len size : ℕ) → 0 < len → length front ≡ len → IsUnfed front 0 len → IsUnfed taken 0 (length taken) → size ≡ len + length taken
+    → max_input < before + size → Measures (front ++ (taken ++ more)) before len size
+over_measures front taken more before len size some is unfed rest counted over =
+    let all : length (front ++ taken) ≡ length front + length taken = length-append front taken in
+    let found = longer (front ++ taken) more (omega (arith, all)) (bare front taken len is unfed rest) in
+    record {
+      raw = found.raw;
+      later = found.later;
+      first = ap raws_of (sym (append_assoc front taken more)) ∙ found.first;
+      long = omega (arith, all, found.text);
+      size = inr (over, omega (arith, all, found.size, counted));
+    }
+
+-- the next bytes have a line feed
+fed_measures : (front taken hay more : List ℕ) (before len size at : ℕ) → 0 < len → length front ≡ len → IsUnfed front 0 len → IsUnfed taken 0 (length taken) → size ≡ len + length taken
+    → NoneBefore (Passes (is_byte 10) hay) 0 (length hay) at → Passes (is_byte 10) hay at → Measures (front ++ (taken ++ (hay ++ more))) before len (size + at + 1)
+fed_measures front taken hay more before len size at some is unfed rest counted none fed =
+    let ahead = front ++ taken in
+    let all : length ahead ≡ length front + length taken = length-append front taken in
+    let whole : front ++ (taken ++ (hay ++ more)) ≡ (ahead ++ hay) ++ more = sym (append_assoc front taken (hay ++ more)) ∙ sym (append_assoc ahead hay more) in
+    let early = unfed_append ahead hay at (bare front taken len is unfed rest) (unfed_len hay at (0 + at) (omega arith) (unfed_before hay hay 0 at refl none.before)) in
+    let there = fed_at hay hay 0 at refl none.high fed in
+    let size_is : length (ahead ++ hay) ≡ length ahead + length hay = length-append ahead hay in
+    let byte : get_or (ahead ++ hay) (length ahead + at) 0 ≡ 10 = get_or-append_right ahead hay (length ahead) (length ahead + at) 0 refl (omega arith) ∙ ap (λ n. get_or hay n 0) (omega arith) ∙ there.1 in
+    rw whole (record {
+      raw = record { text = take (length ahead + at) (ahead ++ hay); size = suc (length ahead + at) };
+      later = raws_of (drop (suc (length ahead + at)) (ahead ++ hay) ++ more);
+      first = raws-fed (ahead ++ hay) more (length ahead + at) (omega (arith, size_is, there.0)) byte early;
+      long = simp length-take (omega (arith, all, size_is, there.0));
+      size = inl (omega (arith, all, counted));
+    })
+
+-- ---- what was passed, of all that the source had and of what was taken
+
 abbrev pub IsMeasured : Option (List ℕ) → ℕ → ℕ → ℕ → Type 0
 IsMeasured left before len n = IfSome left (λ l. (front : List ℕ) → length front ≡ len → IsUnfed front 0 len → Measures (front ++ l) before len n)
-
-len_unfed : (front : List ℕ) (len : ℕ) → length front ≡ len → IsUnfed front 0 len → IsUnfed front 0 (length front)
-len_unfed front len is unfed = rw is unfed
 
 -- the source is at its end
 pub measured_rest : (a b c : Option (List ℕ)) (before len size : ℕ) → 0 < len → IsSkipped a b len size → Consumes b c [] → IsAtEnd c → IsMeasured a before len size
@@ -56,33 +108,29 @@ measured_rest (Some x) None c before len size some skipped from end = absurd ski
 measured_rest (Some x) (Some y) None before len size some skipped from end = absurd from
 measured_rest (Some x) (Some y) (Some z) before len size some skipped from end = λ front is unfed.
     let whole : x ≡ skipped.taken = skipped.from ∙ ap (λ l. skipped.taken ++ l) (from ∙ end) ∙ append-nil skipped.taken in
-    let all : length (front ++ skipped.taken) ≡ length front + length skipped.taken = length-append front skipped.taken in
-    let bare = unfed_append front skipped.taken (length skipped.taken) (len_unfed front len is unfed) skipped.unfed in
-    let bare' : IsUnfed (front ++ skipped.taken) 0 (length (front ++ skipped.taken)) = rw all bare in
-    rw whole (record {
-      raw = record { text = front ++ skipped.taken; size = length (front ++ skipped.taken) };
-      later = [];
-      first = raws-rest (front ++ skipped.taken) (omega (arith, all)) bare';
-      long = omega (arith, all);
-      size = inl (omega (arith, all, skipped.counted));
-    })
+    rw whole (rest_measures front skipped.taken before len size some is unfed skipped.unfed skipped.counted)
+
+pub passed_rest : (a b c : Option (List ℕ)) (before len size : ℕ) → 0 < len → IsSkipped a b len size → Consumes b c [] → IsPassed a c before len size
+passed_rest a b c before len size some skipped from = record {
+  taken = skipped.taken ++ [];
+  from = Consumes-trans a b c skipped.taken [] skipped.from from;
+  measured = λ front is unfed. rw (append-nil skipped.taken) (rest_measures front skipped.taken before len size some is unfed skipped.unfed skipped.counted);
+}
 
 -- the input is too large already
 pub measured_over : (a b : Option (List ℕ)) (before len size : ℕ) → 0 < len → IsSkipped a b len size → max_input < before + size → IsMeasured a before len size
 measured_over None b before len size some skipped over = tt
 measured_over (Some x) None before len size some skipped over = absurd skipped.from
 measured_over (Some x) (Some y) before len size some skipped over = λ front is unfed.
-    let all : length (front ++ skipped.taken) ≡ length front + length skipped.taken = length-append front skipped.taken in
-    let bare = unfed_append front skipped.taken (length skipped.taken) (len_unfed front len is unfed) skipped.unfed in
-    let bare' : IsUnfed (front ++ skipped.taken) 0 (length (front ++ skipped.taken)) = rw all bare in
-    let found = longer (front ++ skipped.taken) y (omega (arith, all)) bare' in
-    record {
-      raw = found.raw;
-      later = found.later;
-      first = ap (λ l. raws_of (front ++ l)) skipped.from ∙ ap raws_of (sym (append_assoc front skipped.taken y)) ∙ found.first;
-      long = omega (arith, all, found.text);
-      size = inr (over, omega (arith, all, found.size, skipped.counted));
-    }
+    rw skipped.from (over_measures front skipped.taken y before len size some is unfed skipped.unfed skipped.counted over)
+
+pub passed_over : (a b : Option (List ℕ)) (before len size : ℕ) → 0 < len → IsSkipped a b len size → max_input < before + size → IsPassed a b before len size
+passed_over a b before len size some skipped over = record {
+  taken = skipped.taken;
+  from = skipped.from;
+  measured = λ front is unfed.
+      rw (← append-nil skipped.taken) (over_measures front skipped.taken [] before len size some is unfed skipped.unfed skipped.counted over);
+}
 
 -- the next bytes have a line feed
 pub measured_fed : (a b c : Option (List ℕ)) (before len size at : ℕ) (read hay : List ℕ) → 0 < len → IsSkipped a b len size → Consumes b c read → hay ≡ read
@@ -91,24 +139,18 @@ measured_fed None b c before len size at read hay some skipped from same none fe
 measured_fed (Some x) None c before len size at read hay some skipped from same none fed = absurd skipped.from
 measured_fed (Some x) (Some y) None before len size at read hay some skipped from same none fed = absurd from
 measured_fed (Some x) (Some y) (Some z) before len size at read hay some skipped from same none fed = λ front is unfed.
-    let ahead = front ++ skipped.taken in
-    let all : length ahead ≡ length front + length skipped.taken = length-append front skipped.taken in
-    let bare = unfed_append front skipped.taken (length skipped.taken) (len_unfed front len is unfed) skipped.unfed in
-    let bare' : IsUnfed ahead 0 (length ahead) = rw all bare in
-    let whole : front ++ x ≡ (ahead ++ hay) ++ z =
-    ap (λ l. front ++ l) (skipped.from ∙ ap (λ l. skipped.taken ++ l) (from ∙ ap (λ l. l ++ z) (sym same)) ∙ sym (append_assoc skipped.taken hay z))
-    ∙ sym (append_assoc front (skipped.taken ++ hay) z) ∙ ap (λ l. l ++ z) (sym (append_assoc front skipped.taken hay)) in
-    let early = unfed_append ahead hay at bare' (unfed_len hay at (0 + at) (omega arith) (unfed_before hay hay 0 at refl none.before)) in
-    let there = fed_at hay hay 0 at refl none.high fed in
-    let size_is : length (ahead ++ hay) ≡ length ahead + length hay = length-append ahead hay in
-    let byte : get_or (ahead ++ hay) (length ahead + at) 0 ≡ 10 = get_or-append_right ahead hay (length ahead) (length ahead + at) 0 refl (omega arith) ∙ ap (λ n. get_or hay n 0) (omega arith) ∙ there.1 in
-    rw whole (record {
-      raw = record { text = take (length ahead + at) (ahead ++ hay); size = suc (length ahead + at) };
-      later = raws_of (drop (suc (length ahead + at)) (ahead ++ hay) ++ z);
-      first = raws-fed (ahead ++ hay) z (length ahead + at) (omega (arith, size_is, there.0)) byte early;
-      long = simp length-take (omega (arith, all, size_is, there.0));
-      size = inl (omega (arith, all, skipped.counted));
-    })
+    let whole : x ≡ skipped.taken ++ (hay ++ z) = skipped.from ∙ ap (λ l. skipped.taken ++ l) (from ∙ ap (λ l. l ++ z) (sym same)) in
+    rw whole (fed_measures front skipped.taken hay z before len size at some is unfed skipped.unfed skipped.counted none fed)
+
+pub passed_fed : (a b c : Option (List ℕ)) (before len size at : ℕ) (read hay : List ℕ) → 0 < len → IsSkipped a b len size → Consumes b c read → hay ≡ read
+    → NoneBefore (Passes (is_byte 10) hay) 0 (length hay) at → Passes (is_byte 10) hay at → IsPassed a c before len (size + at + 1)
+passed_fed a b c before len size at read hay some skipped from same none fed = record {
+  taken = skipped.taken ++ read;
+  from = Consumes-trans a b c skipped.taken read skipped.from from;
+  measured = λ front is unfed.
+      let whole : read ≡ hay ++ [] = sym same ∙ sym (append-nil hay) in
+      rw whole (fed_measures front skipped.taken hay [] before len size at some is unfed skipped.unfed skipped.counted none fed);
+}
 
 unfed_read : (hay read : List ℕ) → hay ≡ read → Nowhere (Passes (is_byte 10) hay) 0 (length hay) → IsUnfed read 0 (length read)
 unfed_read hay read same none = rw (sym same) (unfed_len hay (length hay) (0 + length hay) (omega arith) (unfed_before hay hay 0 (length hay) refl none))

@@ -39,6 +39,12 @@ pub record Measures (bytes : List ℕ) (before least n : ℕ) : Type 0 where
   pub long : least ≤ length raw.text
   pub size : (raw.size ≡ n) ⊎ ((max_input < before + n) × (n ≤ raw.size))
 
+-- Bytes were taken from the source in which the line ends, or is too large anyway, whose first len bytes were taken before.
+pub record IsPassed (before after : Option (List ℕ)) (size len n : ℕ) : Type 0 where
+  pub taken : List ℕ
+  pub from : Consumes before after taken
+  pub measured : (front : List ℕ) → length front ≡ len → IsUnfed front 0 len → Measures (front ++ taken) size len n
+
 -- a stop of reading, and not of a line's size
 abbrev pub IsReadStop : LineStop → Type 0
 IsReadStop stop = (stop ≡ ReadFault) ⊎ (stop ≡ NoMemory)
@@ -62,3 +68,10 @@ abbrev pub IsBad : Option (List ℕ) → ℕ → ℕ → LineStop → Type 0
 IsBad waiting before number (Bad n kind) = (n ≡ number) × ((kind ≡ Total) ⊎ (kind ≡ Long)) × IfSome waiting (λ bytes. StopsAt bytes before kind)
 IsBad waiting before number ReadFault = ⊤
 IsBad waiting before number NoMemory = ⊤
+
+-- A line is refused for what was taken already: the old bytes and those taken from the source begin with a line that is too
+-- large in this way, whatever else the source has. It says nothing of other stops.
+abbrev pub IsShown : Option (List ℕ) → Option (List ℕ) → List ℕ → ℕ → LineStop → Type 0
+IsShown before after old size (Bad n kind) = (taken : List ℕ) × Consumes before after taken × StopsAt (old ++ taken) size kind
+IsShown before after old size ReadFault = ⊤
+IsShown before after old size NoMemory = ⊤

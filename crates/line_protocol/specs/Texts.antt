@@ -34,9 +34,11 @@ first_digest = replicate 32 0
 abbrev pub next_digest : List ℕ → ℕ → List TxResult → List ℕ
 next_digest last height results = sha256 (last ++ body_text height results)
 
+abbrev pub digested : Data → List ℕ → Data
+digested body digest = variant_data (codes "block") (object (member (codes "body") body (member (codes "digest") (string (encode_lower digest)) no_members)))
+
 abbrev pub block_data : ℕ → List TxResult → List ℕ → Data
-block_data height results digest =
-    variant_data (codes "block") (object (member (codes "body") (body_data height results) (member (codes "digest") (string (encode_lower digest)) no_members)))
+block_data height results digest = digested (body_data height results) digest
 
 -- ---- queries
 
@@ -90,7 +92,6 @@ kind_text kinds.Coins = codes "coins"
 kind_text kinds.Supply = codes "supply"
 kind_text kinds.Missing = codes "missing"
 kind_text kinds.Base64 = codes "base64"
-kind_text kinds.Form = codes "form"
 
 abbrev pub bad_data : BadKind → ℕ → Data
 bad_data kind line = variant_data (codes "bad_line") (object (member (codes "kind") (string (kind_text kind)) (member (codes "line") (whole line) no_members)))

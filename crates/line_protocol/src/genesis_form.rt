@@ -1,8 +1,8 @@
-ghost use Rattle.std.specs.Prelude.{◌≡◌};
+ghost use Rattle.std.specs.Prelude.{◌≡◌, IfOk, string_bytes, true};
 ghost use Rattle.serde_json.specs.View.{view};
 ghost use Rattle.json_shapes.specs.Answers.{Reads};
 ghost use Rattle.chain_msgs.specs.Plain.{Holding, holding_view, genesis_view};
-ghost use Rattle.line_protocol.specs.Parts.{holding, genesis_of, is_chain_id, chain_id_at, prefix_at};
+ghost use Rattle.line_protocol.specs.Parts.{holding, genesis_of, is_chain_id, chain_id_at, is_prefix, prefix_at};
 
 use crate::fields::{decimal_at, has_first_profile};
 use crate::prefix::is_prefix;
@@ -68,7 +68,8 @@ fn chain_id_at(alloc: Global, value: &Value) -> Result<&str, ShapeStop>
 }
 
 fn prefix_at(alloc: Global, value: &Value) -> Result<&str, ShapeStop>
-    ensures { Reads (λ text. text.now) result (prefix_at (view value.now)) }
+    ensures text { Reads (λ text. text.now) result (prefix_at (view value.now)) }
+    ensures prefix { IfOk result (λ text. is_prefix text.now ≡ true) }
 {
     let text = text_at(alloc, value, "prefix")?;
     if is_prefix(text) {
@@ -81,7 +82,8 @@ fn prefix_at(alloc: Global, value: &Value) -> Result<&str, ShapeStop>
 /// What a genesis line says.
 #[tactic(auto, unfolding(crate::specs::Parts::genesis_of))]
 pub(crate) fn genesis_of(alloc: Global, value: &Value) -> Result<Genesis, ShapeStop>
-    ensures { Reads genesis_view result (genesis_of (view value.now)) }
+    ensures said { Reads genesis_view result (genesis_of (view value.now)) }
+    ensures prefix { IfOk result (λ g. is_prefix (string_bytes g.prefix) ≡ true) }
 {
     let chain_id = chain_id_at(alloc, value)?;
     let time = decimal_at(alloc, value, "time")?;

@@ -28,7 +28,4 @@ pub enum BadKind {
     Missing,
     #[error("not base64")]
     Base64,
-    /// The line is none of the forms that are taken.
-    #[error("none of the forms that are taken")]
-    Form,
 }

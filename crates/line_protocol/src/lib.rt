@@ -11,7 +11,6 @@ mod line_form;
 mod lines;
 mod prefix;
 mod reply;
-mod said;
 mod texts;
 
 pub use kind::BadKind;
@@ -20,5 +19,4 @@ pub use line_form::parse;
 pub use lines::{LineStop, Lines, RawLine};
 pub use prefix::is_prefix;
 pub use reply::{QueryReply, QueryResult};
-pub use said::{raw_coins_at, read_json, text_at, variant_of};
 pub use texts::{bad_text, block_text, check_text, genesis_text, query_text};

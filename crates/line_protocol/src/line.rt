@@ -2,6 +2,7 @@ ghost use Rattle.std.specs.Prelude.{◌≡◌};
 
 use crate::kind::BadKind;
 use chain_msgs::{Block, Genesis};
+use json_shapes::{JsonStop, ShapeStop};
 use std::alloc::{AllocError, AllocFailed};
 use thiserror::Error;
 
@@ -52,5 +53,32 @@ impl<T: Drop> From<AllocFailed<T>> for ParseStop {
 
     fn from(_error: AllocFailed<T>) -> ParseStop {
         ParseStop::NoMemory
+    }
+}
+
+impl From<JsonStop> for ParseStop {
+    ghost use Rattle.line_protocol.specs.Reads.{json_stop};
+
+    ghost from_gives = { λ stop parsed. parsed ≡ json_stop stop };
+
+    fn from(stop: JsonStop) -> ParseStop {
+        match stop {
+            JsonStop::NoReading => ParseStop::Bad(BadKind::Json),
+            JsonStop::NotWhole => ParseStop::Bad(BadKind::Number),
+            JsonStop::NoMemory => ParseStop::NoMemory,
+        }
+    }
+}
+
+impl From<ShapeStop> for ParseStop {
+    ghost use Rattle.line_protocol.specs.Reads.{shape_stop};
+
+    ghost from_gives = { λ stop parsed. parsed ≡ shape_stop stop };
+
+    fn from(stop: ShapeStop) -> ParseStop {
+        match stop {
+            ShapeStop::Shape { .. } => ParseStop::Bad(BadKind::Shape),
+            ShapeStop::NoMemory => ParseStop::NoMemory,
+        }
     }
 }

@@ -1,4 +1,4 @@
-ghost use Rattle.std.specs.Prelude.{◌≡◌, false};
+ghost use Rattle.std.specs.Prelude.{◌≡◌, false, IfOk};
 ghost use Rattle.std.specs.List.{list_all};
 ghost use Rattle.serde_json.specs.View.{view};
 ghost use Rattle.serde_json.specs.Written.{has_float};
@@ -6,27 +6,29 @@ ghost use Rattle.json_shapes.specs.Answers.{Reads as ReadsShape};
 ghost use Rattle.line_protocol.specs.Forms.{is_blank, line_of};
 ghost use Rattle.line_protocol.specs.Parts.{question_of, request_at, named_line, value_line};
 ghost use Rattle.line_protocol.specs.Plain.{question_view, line_view};
-ghost use Rattle.line_protocol.specs.Reads.{Reads};
+ghost use Rattle.line_protocol.specs.Reads.{Reads, HasPrefix};
 
 use crate::block_form::block_of;
 use crate::fields::u32_at;
 use crate::genesis_form::genesis_of;
 use crate::line::{Line, ParseStop, Question};
-use crate::said::{read_json, said};
-use json_shapes::{ShapeStop, Want, optional_field, stop_at, stop_for, take_one_field, write_json};
+use json_shapes::{
+    ShapeStop, Want, optional_field, read_json, stop_at, stop_for, take_one_field, write_json,
+};
 use serde_json::Value;
 use std::alloc::Global;
 
 /// What a line says, by its number in the input.
 #[tactic(auto, unfolding(crate::specs::Forms::line_of))]
 pub fn parse(alloc: Global, number: u64, bytes: &[u8]) -> Result<Line, ParseStop>
-    ensures { Reads line_view result (line_of number bytes.now) }
+    ensures said { Reads line_view result (line_of number bytes.now) }
+    ensures prefix { IfOk result HasPrefix }
 {
     if is_empty(bytes) {
         return Ok(Line::Empty);
     }
     let value = read_json(alloc, bytes)?;
-    said(value_line(alloc, number, value))
+    Ok(value_line(alloc, number, value)?)
 }
 
 /// Whether the line has blanks alone.
@@ -74,7 +76,8 @@ fn question_of(alloc: Global, line: u64, value: &Value) -> Result<Question, Shap
 /// What the variant of this name says.
 fn named_line(alloc: Global, line: u64, name: &str, value: Value) -> Result<Line, ShapeStop>
     requires { has_float (view value) ≡ false }
-    ensures { ReadsShape line_view result (named_line line (name.now, view value)) }
+    ensures said { ReadsShape line_view result (named_line line (name.now, view value)) }
+    ensures prefix { IfOk result HasPrefix }
 {
     match name {
         "genesis" => Ok(Line::Genesis(genesis_of(alloc, &value)?)),
@@ -87,7 +90,8 @@ fn named_line(alloc: Global, line: u64, name: &str, value: Value) -> Result<Line
 /// What the value in a line says.
 fn value_line(alloc: Global, line: u64, value: Value) -> Result<Line, ShapeStop>
     requires { has_float (view value) ≡ false }
-    ensures { ReadsShape line_view result (value_line line (view value)) }
+    ensures said { ReadsShape line_view result (value_line line (view value)) }
+    ensures prefix { IfOk result HasPrefix }
 {
     match take_one_field(value) {
         Some((name, inner)) => named_line(alloc, line, name.as_str(), inner),

@@ -2,7 +2,7 @@ ghost use Rattle.std.specs.Prelude.{◌≡◌, ◌+◌, ◌<◌, ◌≤◌, ◌^
 ghost use Rattle.std.specs.Io.KnownBytes.{Keeps, IsAtEnd};
 ghost use Rattle.outside_io.specs.Cause.{Rose};
 ghost use Rattle.line_protocol.specs.Lines.{max_input, too_large};
-ghost use Rattle.line_protocol.specs.Gathering.{IsUnfed, TakesUnfed, Measures};
+ghost use Rattle.line_protocol.specs.Gathering.{IsUnfed, TakesUnfed, Measures, IsPassed};
 
 use crate::kind::BadKind;
 use memchr::memchr;
@@ -74,7 +74,7 @@ pub struct Lines {
 
 impl Lines {
     ghost use Rattle.std.specs.Prelude.{OnOk, take, drop, None};
-    ghost use Rattle.line_protocol.specs.Gathering.{Draws, IsFound, IsReadStop, IsSizeStop, IsBad};
+    ghost use Rattle.line_protocol.specs.Gathering.{Draws, IsFound, IsReadStop, IsSizeStop, IsBad, IsShown};
     ghost use Rattle.line_protocol.specs.Outcome.{IfLine, IfNoLine};
     ghost use Rattle.line_protocol.specs.Lines.{HandsOut, oversize, line_feed, max_line};
     ghost use Rattle.line_protocol.specs.Progress.{kept, is_ended, number, size, waiting, taken_line, KnowsEnd, IsBehind, IsEndedLine};
@@ -121,10 +121,13 @@ impl Lines {
         ensures nothing { IfNoLine result (kept self.old ≡ []) }
         ensures rest { IfNoLine result ((kept self.new ≡ []) × (is_ended self.new ≡ true)) }
         ensures still { IfNoLine result (IsBehind self.old self.new) }
+        ensures spent { IfNoLine result (Keeps (S.left source.old) (S.left source.new)) }
 
         // What is refused is too large, or could not be read.
         ensures bad { IfErr result (IsBad (waiting self.old (S.left source.old)) (size self.old)
             (number self.old + 1)) }
+        ensures known { IfErr result (IsShown (S.left source.old) (S.left source.new)
+            (kept self.old) (size self.old)) }
         ensures fault { result ≡ Err LineStop.ReadFault
             → Rose (S.faults source.old) (S.faults source.new) }
         ensures open { result ≡ Err LineStop.ReadFault → is_ended self.old ≡ false }
@@ -165,16 +168,18 @@ impl Lines {
     }
 
     /// Lets go of the bytes that were handed out.
-    fn compact(&mut self) -> Result<(), AllocError>
+    fn compact(&mut self)
         ensures behind { IsBehind self.old self.new }
-        ensures kept { OnOk result (kept self.new ≡ kept self.old) }
+        ensures kept { kept self.new ≡ kept self.old }
         ensures ended { is_ended self.new ≡ is_ended self.old }
     {
-        if self.start > 0 {
-            self.buffer = self.buffer.split_off(self.start)?;
+        let start = self.start;
+        if start > 0 {
+            let len = self.buffer.len();
+            self.buffer.copy_within(start..len, 0);
             self.start = 0;
+            self.buffer.truncate(len - start);
         }
-        Ok(())
     }
 
     /// Takes the next bytes of the source behind the kept ones: none only at the end of the input.
@@ -196,7 +201,7 @@ impl Lines {
         let Ok(taken) = source.take(&mut chunk) else {
             return Err(LineStop::ReadFault);
         };
-        self.compact()?;
+        self.compact();
         self.buffer.extend_from_slice(&chunk[..taken])?;
         Ok(taken)
     }
@@ -317,6 +322,8 @@ impl Lines {
         requires unfed { IsUnfed (kept self.old) 0 (length (kept self.old)) }
         ensures bad { IsBad (waiting self.old (S.left source.old)) (size self.old)
             (number self.old + 1) result }
+        ensures known { IsShown (S.left source.old) (S.left source.new) (kept self.old)
+            (size self.old) result }
         ensures fault { result ≡ LineStop.ReadFault
             → Rose (S.faults source.old) (S.faults source.new) }
         ensures unfed { result ≡ LineStop.ReadFault
@@ -348,6 +355,8 @@ fn skip_line<S: Source>(source: &mut S, before: u64, len: u64) -> Result<u64, Li
     ensures size { IfOk result (λ n. IfSome (S.left source.old)
         (λ left. (front : List ℕ) → length front ≡ len → IsUnfed front 0 len
         → Measures (front ++ left) before len n)) }
+    ensures passed { IfOk result
+        (IsPassed (S.left source.old) (S.left source.new) before len) }
     ensures none { result ≡ Err LineStop.ReadFault
         → TakesUnfed (S.left source.old) (S.left source.new) [] }
     ensures fault { result ≡ Err LineStop.ReadFault

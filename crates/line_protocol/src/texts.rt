@@ -1,13 +1,12 @@
-ghost use Rattle.std.specs.Prelude.{◌≡◌, ◌++◌, false, map, codes, IfOk};
-ghost use Rattle.serde_json.specs.Data.{string, object, member, no_members};
+ghost use Rattle.std.specs.Prelude.{◌≡◌, ◌++◌, false, map, IfOk};
+ghost use Rattle.serde_json.specs.Data.{Data, string};
 ghost use Rattle.serde_json.specs.View.{view};
-ghost use Rattle.serde_json.specs.Written.{has_float};
+ghost use Rattle.serde_json.specs.Written.{has_float, compact_text};
 ghost use Rattle.hex.specs.Hex.{encode_lower};
 ghost use Rattle.sha2.specs.Sha256.{sha256};
-ghost use Rattle.json_shapes.specs.Values.{variant_data};
 ghost use Rattle.chain_msgs.specs.Plain.{result_view, genesis_view};
 ghost use Rattle.line_protocol.specs.Plain.{query_result_view, reply_view};
-ghost use Rattle.line_protocol.specs.Texts.{line_text, genesis_data, body_data, next_digest, block_data, query_result_data, query_data, kind_text, check_data, bad_data};
+ghost use Rattle.line_protocol.specs.Texts.{line_text, genesis_data, body_data, next_digest, digested, block_data, query_result_data, query_data, kind_text, check_data, bad_data};
 
 use crate::kind::BadKind;
 use crate::reply::{QueryReply, QueryResult};
@@ -16,6 +15,9 @@ use json_shapes::write_json;
 use serde_json::{Value, json};
 use sha2::{Digest, Sha256};
 use std::alloc::{AllocError, Global};
+
+/// How many bytes a block's line has besides its body's text.
+const AROUND_BODY: usize = 96;
 
 /// The compact text of a value and a line feed.
 fn write_line(alloc: Global, value: &Value) -> Result<Vec<u8>, AllocError>
@@ -86,7 +88,6 @@ fn kind_text(kind: BadKind) -> &'static str
         BadKind::Supply => "supply",
         BadKind::Missing => "missing",
         BadKind::Base64 => "base64",
-        BadKind::Form => "form",
     }
 }
 
@@ -98,13 +99,28 @@ fn body_value(alloc: Global, height: u64, results: &[TxResult]) -> Result<Value,
     json!(in alloc; {"height": height, "results": results})
 }
 
-fn block_value(alloc: Global, body: Value, digest: &[u8; 32]) -> Result<Value, AllocError>
-    ensures { IfOk result (λ value. view value ≡ variant_data (codes "block")
-        (object (member (codes "body") (view body)
-        (member (codes "digest") (string (encode_lower digest.now)) no_members)))) }
+/// The line of a block whose body has this text.
+fn digested_text(alloc: Global, body: &[u8], digest: &[u8; 32]) -> Result<Vec<u8>, AllocError>
+    ensures { IfOk result (λ line. (d : Data) → body.now ≡ compact_text d
+        → line.items ≡ line_text (digested d digest.now)) }
 {
-    let digest = hex::encode(alloc, digest)?;
-    json!(in alloc; {"block": {"body": body, "digest": digest}})
+    let digest = write_digest(alloc, digest)?;
+    let mut line = Vec::with_capacity(alloc, body.len() + AROUND_BODY)?;
+    line.extend_from_slice(b"{\"block\":{\"body\":")?;
+    line.extend_from_slice(body)?;
+    line.extend_from_slice(b",\"digest\":")?;
+    line.extend_from_slice(&digest)?;
+    line.extend_from_slice(b"}}\n")?;
+    Ok(line)
+}
+
+/// The JSON text of a digest.
+fn write_digest(alloc: Global, digest: &[u8; 32]) -> Result<Vec<u8>, AllocError>
+    ensures { IfOk result (λ text. text.items
+        ≡ compact_text (string (encode_lower digest.now))) }
+{
+    let digest = Value::String(hex::encode(alloc, digest)?);
+    write_json(alloc, &digest)
 }
 
 /// The digest of a digest and a text.
@@ -132,8 +148,7 @@ pub fn block_text(
     let body = body_value(alloc, height, results)?;
     let text = write_json(alloc, &body)?;
     let digest = chained_digest(last, &text);
-    let line = block_value(alloc, body, &digest)?;
-    Ok((write_line(alloc, &line)?, digest))
+    Ok((digested_text(alloc, &text, &digest)?, digest))
 }
 
 fn query_result_value(alloc: Global, found: &QueryResult) -> Result<Value, AllocError>
