@@ -1,4 +1,6 @@
 pub mod Accounts
+pub mod Beginning
+pub mod Delivered
 pub mod Distinct
 pub mod Items
 pub mod Lawfulness

@@ -5,3 +5,4 @@ pub mod Refusing
 pub mod Loops
 pub mod Closing
 pub mod Collecting
+pub mod Running

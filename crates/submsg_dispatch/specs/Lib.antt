@@ -3,6 +3,8 @@ pub mod Failures
 pub mod Events
 pub mod Messages
 pub mod Transactions
+pub mod Blocks
 pub mod Views
 pub mod Reaching
 pub mod Under
+pub mod Examples

@@ -1,17 +1,19 @@
 -- What a call does to layers that stand for a lawful state, by the part of a transaction that it is.
-use Rattle.std.specs.Prelude.{ℕ, ◌≡◌, Option, Result, Ok, Err, ⊤}
+use Rattle.std.specs.Prelude.{ℕ, ◌≡◌, List, Option, Result, Ok, Err, ⊤}
+use Rattle.gas_meter.specs.declared.schedule.Schedule.{Schedule}
 use Rattle.kv_layers.specs.declared.layers.Layers.{Layers}
 use Rattle.kv_layers.specs.Layers.{Stands}
 use Rattle.kv_layers.specs.Maps.{Maps, changed}
 use Rattle.chain_records.specs.State.{Bytes, State, Spells}
 use Rattle.gatekeeper.specs.Cache.{Tally}
 use Rattle.gatekeeper.specs.Fetches.{Tallies}
-use Rattle.chain_msgs.specs.Plain.{failure_view, TxResult}
+use Rattle.chain_msgs.specs.Plain.{failure_view, Tx, TxResult}
 use Rattle.query_router.specs.Lawful.{IsLawful}
 use Rattle.submsg_dispatch.specs.declared.stop.HandleStop.{HandleStop}
 use Rattle.submsg_dispatch.specs.declared.stop.HandleStop.TheVariants.{Failed, OutOfGas, NoMemory}
 use Rattle.submsg_dispatch.specs.Parts.{Part, Ran, kept, failed, out_of_gas}
 use Rattle.submsg_dispatch.specs.Transactions.{TxRan}
+use Rattle.submsg_dispatch.specs.Blocks.{BlockRan, all_run}
 
 -- the layers stand for a map that spells a lawful state of the same chain
 pub record Arrives {B : Type 0} (S : B → Bytes → Type 0) (new : Layers B) (maps : Maps) (from to : State) : Type 0 where
@@ -54,3 +56,12 @@ Runs S old new before after run result =
 -- the layers stand for each map that they stood for, where it spells a lawful state
 abbrev pub Undoes : {B : Type 0} → (B → Bytes → Type 0) → Layers B → Layers B → Type 0
 Undoes S old new = (maps : Maps) (s : State) → Stands S old maps → Spells maps.current s → IsLawful s → Stands S new maps
+
+-- ---- all transactions of a block
+
+-- For each map and lawful state that the layers stood for, they stand for that after all of them. These are the results, and the
+-- codes were fetched in order.
+abbrev pub RunsAll : {B : Type 0} → (B → Bytes → Type 0) → Layers B → Layers B → Option Tally → Option Tally → Schedule → List Tx → List TxResult → Type 0
+RunsAll S old new before after costs txs results =
+    (maps : Maps) (s : State) → Stands S old maps → Spells maps.current s → IsLawful s
+    → Arrives S new maps s (all_run costs s 0 txs).state × (results ≡ (all_run costs s 0 txs).results) × Tallies before (all_run costs s 0 txs).fetched after

@@ -17,7 +17,8 @@ use Rattle.gatekeeper.specs.Cache.{Tally}
 use Rattle.gatekeeper.specs.Fetches.{Tallies}
 use Rattle.chain_msgs.specs.declared.event.Event as event_type
 use Rattle.chain_msgs.specs.declared.failure.Failure as failure_type
-use Rattle.chain_msgs.specs.Plain.{Event, event_view, Failure, failure_view, TxResult}
+use Rattle.chain_msgs.specs.Plain.{Event, event_view, Failure, failure_view, Tx, TxResult}
+use Rattle.gas_meter.specs.declared.schedule.Schedule.{Schedule}
 use Rattle.query_router.specs.Lawful.{IsLawful}
 use Rattle.submsg_dispatch.specs.declared.outcome.Outcome as outcome_type
 use Rattle.submsg_dispatch.specs.declared.stop.HandleStop.{HandleStop}
@@ -28,6 +29,7 @@ use Rattle.submsg_dispatch.specs.Failures as failures
 use Rattle.submsg_dispatch.specs.Events.{transfer, burn}
 use Rattle.submsg_dispatch.specs.Messages.{Outcome, only_events, moves, burns}
 use Rattle.submsg_dispatch.specs.Transactions.{TxRan, failed_result, succeeded}
+use Rattle.submsg_dispatch.specs.Blocks.{all_run}
 use Rattle.submsg_dispatch.specs.Views.{outcome_view}
 use Rattle.submsg_dispatch.specs.Reaching.{Arrives, Leaves, Comes, UnlessNoMemory}
 
@@ -138,3 +140,7 @@ pub record RunsUnder {B : Type 0} (prefix : List ℕ) (S : B → Bytes → Type 
   pub ran : (maps : Maps) (s : State) → Stands S old maps → Spells maps.current s → IsLawful s → s.facts.prefix ≡ prefix
       → Arrives S new maps s (run s).state × (result ≡ (run s).result) × Tallies before (run s).fetched after
   pub undone : IsSome result.failure → (maps : Maps) (s : State) → Stands S old maps → Spells maps.current s → IsLawful s → s.facts.prefix ≡ prefix → Stands S new maps
+
+pub record RunsAllUnder {B : Type 0} (prefix : List ℕ) (S : B → Bytes → Type 0) (old new : Layers B) (before after : Option Tally) (costs : Schedule) (txs : List Tx) (results : List TxResult) : Type 0 where
+  pub ran : (maps : Maps) (s : State) → Stands S old maps → Spells maps.current s → IsLawful s → s.facts.prefix ≡ prefix
+      → Arrives S new maps s (all_run costs s 0 txs).state × (results ≡ (all_run costs s 0 txs).results) × Tallies before (all_run costs s 0 txs).fetched after

@@ -1,8 +1,9 @@
 //! What a message does that a sender asks for, and what a transaction does: its messages together,
-//! or nothing.
+//! or nothing. What the transactions of a block do, one after the other.
 #![tactic(auto)]
 
 mod bank;
+mod blocks;
 mod charges;
 mod events;
 mod failures;
@@ -14,6 +15,7 @@ mod stop;
 mod transaction;
 mod turns;
 
+pub use blocks::run_txs;
 pub use message::handle;
 pub use outcome::Outcome;
 pub use stop::HandleStop;

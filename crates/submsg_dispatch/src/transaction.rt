@@ -49,7 +49,7 @@ pub fn run_tx<B: Base, M: Modules>(
 }
 
 /// Does a transaction, where addresses have this prefix.
-fn run_under<B: Base, M: Modules>(
+pub(crate) fn run_under<B: Base, M: Modules>(
     alloc: Global,
     layers: &mut Layers<B>,
     modules: &mut M,

@@ -124,7 +124,7 @@ pub(crate) fn handle_all<B: Base, M: Modules>(
     ensures layers { stacks.depth layers.new ≡ stacks.depth layers.old }
 {
     fetches_join();
-    let mut outcomes = Vec::with_capacity(alloc, values.len())?;
+    let mut outcomes = Vec::new(alloc);
     for value in values {
         let outcome = read_and_handle(
             alloc, layers, modules, prefix, sender, value, index, meter, costs,

@@ -12,7 +12,7 @@ use Rattle.submsg_dispatch.proofs.turns.handle_all.Goals as goal
 
 pub loop-value-init : goal.loop-value-init
 loop-value-init g c = record {
-  reaches = reach_start (outcomes_view c.in_ok-outcomes.outcomes) (all_handled c.args.costs.now c.args.sender.now c.args.index (map view c.args.values.now)) (ap (map outcome_view) c.in_ok-outcomes.ensures.items);
+  reaches = reach_start (outcomes_view c.new-outcomes.result) (all_handled c.args.costs.now c.args.sender.now c.args.index (map view c.args.values.now)) (ap (map outcome_view) c.new-outcomes.ensures.items);
   gas = refl;
   layers = refl;
 }
@@ -39,9 +39,6 @@ loop-value-preserved g c =
       gas = c.in_ok-outcome.ensures.gas ∙ c.loop-value.invariant.gas;
       layers = c.in_ok-outcome.ensures.layers ∙ c.loop-value.invariant.layers;
     }
-
-pub returns-in_err-outcomes-clause-leads : goal.returns-in_err-outcomes-clause-leads
-returns-in_err-outcomes-clause-leads g c = passes_on c.from_residual.result NoMemory c.from_residual.ensures.1 no_room
 
 pub returns-in_err-outcome-clause-leads : goal.returns-in_err-outcome-clause-leads
 returns-in_err-outcome-clause-leads g c =
