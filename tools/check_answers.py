@@ -1,7 +1,7 @@
 #!/usr/bin/env python3
 """Runs the built programs on whole inputs, and compares what they write and their statuses with what is
-wanted: each kind of bad line, addresses in either case, limits, reads and writes that fail on the way, and
-blocks of sends beside a plain map of balances. Run it after rt ci. It writes nothing where all is as it should be."""
+wanted: each kind of bad line, addresses in either case, limits, what fails in a transaction, queries of kept
+heights, reads and writes that fail on the way, and blocks of sends beside a plain map of balances. Run it after rt ci. It writes nothing where all is as it should be."""
 import base64
 import hashlib
 import json
@@ -77,25 +77,50 @@ def genesis(authority=None, balances=()):
                         "capabilities": [], "chain_id": "t-1", "prefix": "abcdef", "query_gas": 1000000, "time": "0"}}
 
 
+def tx_of(gas, sender, *msgs):
+    return {"gas": gas, "msgs": msgs, "sender": sender}
+
+
+def send(recipient, *sent_coins):
+    return {"bank": {"send": {"amount": coins(*sent_coins), "to_address": recipient}}}
+
+
 def tx(gas, sender, recipient, *sent_coins):
-    return {"gas": gas, "msgs": [{"bank": {"send": {"amount": coins(*sent_coins), "to_address": recipient}}}], "sender": sender}
+    return tx_of(gas, sender, send(recipient, *sent_coins))
 
 
 def block(time, *txs):
     return {"block": {"time": str(time), "txs": txs}}
 
 
+def balance_request(address, denom="utok"):
+    return {"bank": {"balance": {"address": address, "denom": denom}}}
+
+
+def asks(request, height=None):
+    return {"query": {"client": 1, "height": height, "request": request}}
+
+
 def query(address, denom="utok", height=None):
-    return {"query": {"client": 1, "height": height, "request": {"bank": {"balance": {"address": address, "denom": denom}}}}}
+    return asks(balance_request(address, denom), height)
+
+
+def done(gas, *events):
+    """A transaction that was done, whose messages have an event each."""
+    told = [{"attributes": [{"key": k, "value": v} for k, v in attributes], "type": kind} for kind, *attributes in events]
+    return {"code": 0, "codespace": "", "data": [None] * len(events), "detail": "", "events": told, "gas": gas}
+
+
+def transfer(sender, recipient, amount):
+    return ("transfer", ("recipient", recipient), ("sender", sender), ("amount", amount))
 
 
 def sent(gas, sender, recipient, amount):
-    attributes = [{"key": k, "value": v} for k, v in (("recipient", recipient), ("sender", sender), ("amount", amount))]
-    return {"code": 0, "codespace": "", "data": [None], "detail": "", "events": [{"attributes": attributes, "type": "transfer"}], "gas": gas}
+    return done(gas, transfer(sender, recipient, amount))
 
 
-def not_sent(code, gas, detail):
-    return {"code": code, "codespace": "sdk", "data": [], "detail": detail, "events": [], "gas": gas}
+def not_sent(code, gas, detail, codespace="sdk"):
+    return {"code": code, "codespace": codespace, "data": [], "detail": detail, "events": [], "gas": gas}
 
 
 class Digests:
@@ -112,9 +137,21 @@ class Digests:
         return {"block": {"body": body, "digest": self.last.hex()}}
 
 
-def balance(height, amount, denom="utok"):
-    value = base64.b64encode(text({"amount": {"amount": str(amount), "denom": denom}}).encode()).decode()
-    return {"query": {"client": 1, "gas": 1000, "height": height, "n": height, "result": {"ok": {"ok": value}}}}
+def in_base64(value):
+    return base64.b64encode(text(value).encode()).decode()
+
+
+def replied(n, gas, result, height=None):
+    """A query's answer, which saw n as the newest height and asked this one, or the newest."""
+    return {"query": {"client": 1, "gas": gas, "height": n if height is None else height, "n": n, "result": result}}
+
+
+def balance(n, amount, denom="utok", height=None):
+    return replied(n, 1000, {"ok": {"ok": in_base64({"amount": {"amount": str(amount), "denom": denom}})}}, height)
+
+
+def invalid(n, error, request):
+    return replied(n, 1000, {"error": {"invalid_request": {"error": error, "request": in_base64(request)}}})
 
 
 def bad(kind, number):
@@ -151,28 +188,38 @@ def a_send_to_oneself_changes_nothing():
 
 
 def a_bad_line_ends_the_run():
-    no_message = block(1, {"gas": 1, "msgs": [], "sender": A})
     fraction = text(block(1, tx(1, A, B, (1, "utok")))).replace('"gas":1', '"gas":1.0')
     greatest = 2**128 - 1
+    none = [(0, "utok")]
+    too_much = [(A, [(greatest, "utok")]), (B, [(1, "utok")])]
     # lines, the answers to them before the bad one, its kind and its number
     for given, answers, kind, number in [
         ([], [], "missing", 1),
         (["", " \t\r"], [], "missing", 3),
-        ([BLOCK], [], "form", 1),
-        (["", QUERY], [], "form", 2),
-        ([GENESIS, GENESIS], [OPENED], "form", 2),
-        ([GENESIS, '{"block":{}}'], [OPENED], "form", 2),
-        ([GENESIS, BLOCK, "", "{"], [OPENED, BLOCK_ANSWER], "form", 4),
-        # two holdings of one address, in two spellings, and a supply of 2^128
-        ([genesis(None, [(A, []), (A.upper(), [])])], [], "form", 1),
-        ([genesis(None, [(A, [(greatest, "utok")]), (B, [(1, "utok")])])], [], "form", 1),
-        # no message, no coin, a number with a fraction, and a height that is asked
-        ([GENESIS, no_message], [OPENED], "form", 2),
-        ([GENESIS, block(1, tx(1, A, B))], [OPENED], "form", 2),
-        ([GENESIS, fraction], [OPENED], "form", 2),
-        ([GENESIS, query(A, height=0)], [OPENED], "form", 2),
+        ([GENESIS, BLOCK, "", "{"], [OPENED, BLOCK_ANSWER], "json", 4),
+        ([GENESIS, fraction], [OPENED], "number", 2),
+        ([GENESIS, '{"block":{}}'], [OPENED], "shape", 2),
+        ([GENESIS, '{"transfer":{}}'], [OPENED], "shape", 2),
+        ([BLOCK], [], "order", 1),
+        (["", QUERY], [], "order", 2),
+        ([GENESIS, GENESIS], [OPENED], "order", 2),
+        # two holdings of one address, in two spellings, a coin of nothing, and a supply of 2^128
+        ([genesis(None, [(A, []), (A.upper(), [])])], [], "address", 1),
+        ([genesis(None, [(A, none)])], [], "coins", 1),
+        ([genesis(None, too_much)], [], "supply", 1),
+        # two kinds in one line, of which the earlier is answered
+        (["[1.5"], [], "json", 1),
+        (["[1.5]"], [], "number", 1),
+        ([GENESIS, '{"query":{"client":1,"more":-1.5}}'], [OPENED], "number", 2),
+        (['{"block":{}}'], [], "shape", 1),
+        ([GENESIS, '{"genesis":{}}'], [OPENED], "shape", 2),
+        ([GENESIS, genesis("zz")], [OPENED], "order", 2),
+        ([genesis("zz", [(A, none)])], [], "address", 1),
+        ([genesis(None, [(A, []), (B, none), (A, [])])], [], "address", 1),
+        ([genesis(None, [*too_much, (C, none)])], [], "coins", 1),
     ]:
         expect(f"a bad line of {given}", ["serial"], lines(*given), BAD_LINE, lines(*answers, bad(kind, number)))
+    expect("a long line that is no JSON", ["serial"], lines(GENESIS) + b"{" * (8 * 2**20 + 1), BAD_LINE, lines(OPENED, bad("long", 2)))
 
 
 def an_address_is_read_in_either_case():
@@ -185,23 +232,80 @@ def an_address_is_read_in_either_case():
     # bytes, 65 bytes, bits that fill no byte, and bits other than 0 behind the last byte
     for none in ["", "a", "abcdef1bpzry9x8gf2tvdw0s3jn54khce6mua7lmqqqxw", "abcdef1qpzry9x8gf2tvdw0s3jn54khce6mua7lmqqqxq",
                  "Abcdef1qpzry9x8gf2tvdw0s3jn54khce6mua7lmqqqxw", "abcdeg1qpzry9x8gf2tvdw0s3jn54khce6mua7ls7htt9", "abcdef1hu3qdg",
-                 "abcdef1qqqqqqqqqqqqqqqqqqqqqqqqqqqqqqqqqqqqqqqqqqqqqqqqqqqqqqqqqqqqqqqqqqqqqqqqqqqqqqqqqqqqqqqqqqqqqqqqqqqqeumj02",
+                 "abcdef1qqqqqqqqqqqqqqqqqqqqqqqqqqqqqqqqqqqqqqqqqqqqqqqqqqqqqqqqqqqqqqqqqqqqqqqqqqqqqqqqqqqqqqqqqqqqqqqqqqqeumj02",
                  "abcdef1qqqlewqfh", "abcdef1qp2a4y4w"]:
         for first in [genesis(none), genesis(None, [(none, [(10, "utok")])])]:
-            expect(f"the address {none}", ["serial"], lines(first), BAD_LINE, lines(bad("form", 1)))
-        for second in [block(1, tx(5000, none, B, (3, "utok"))), block(1, tx(5000, A, none, (3, "utok"))), query(none)]:
-            expect(f"the address {none}", ["serial"], lines(GENESIS, second), BAD_LINE, lines(OPENED, bad("form", 2)))
+            expect(f"the address {none}", ["serial"], lines(first), BAD_LINE, lines(bad("address", 1)))
+        given = lines(GENESIS, block(1, tx(5000, none, B, (3, "utok")), tx(5000, A, none, (3, "utok"))), query(none))
+        results = Digests().answer(not_sent(7, 0, "AddressBad"), not_sent(7, 1000, "AddressBad"))
+        expect(f"the address {none}", ["serial"], given, DONE, lines(OPENED, results, invalid(1, "address", balance_request(none))))
+
+
+def what_fails_in_a_transaction_is_told_with_its_gas():
+    one = send(B, (1, "utok"))
+    staking = {"staking": {"delegate": {}}}
+    txs, results = zip(*[
+        (tx_of(5000, A), not_sent(18, 0, "NoMessages")),
+        (tx_of(5000, "zz"), not_sent(7, 0, "AddressBad")),
+        (tx_of(5000, A, staking), not_sent(20, 1000, "Unsupported staking", "wasm")),
+        (tx_of(5000, A, {"bank": {"send": {}}}), not_sent(18, 0, "MessageBad")),
+        (tx_of(5000, A, send(B, (0, "utok"))), not_sent(10, 1000, "CoinsBad")),
+        (tx_of(5000, A, send(B)), not_sent(10, 1000, "CoinsBad")),
+        # what the first message did is undone
+        (tx_of(5000, A, one, send(B, (10, "utok"))), not_sent(5, 2200, "NotEnough utok 9 10")),
+        (tx_of(5000, A, one, {"bank": 1}), not_sent(18, 1100, "MessageBad")),
+        (tx_of(2199, A, one, one), not_sent(11, 2199, "OutOfGas")),
+        (tx_of(2200, A, one, one), done(2200, transfer(A, B, "1utok"), transfer(A, B, "1utok"))),
+    ])
+    given = lines(GENESIS, block(1, *txs), QUERY)
+    expect("transactions that fail", ["serial"], given, DONE, lines(OPENED, Digests().answer(*results), balance(1, 8)))
+
+
+def a_burn_is_seen_by_queries():
+    burn = tx_of(5000, A, {"bank": {"burn": {"amount": coins((4, "utok"))}}})
+    wanted = Digests().answer(done(1100, ("burn", ("burner", A), ("amount", "4utok"))))
+    left = {"amount": "6", "denom": "utok"}
+    requests = [
+        ({"bank": {"supply": {"denom": "utok"}}}, 1000, {"ok": {"ok": in_base64({"amount": left})}}),
+        ({"bank": {"all_balances": {"address": A}}}, 1100, {"ok": {"ok": in_base64({"amount": [left]})}}),
+        ({"bank": {"all_balances": {"address": B}}}, 1000, {"ok": {"ok": in_base64({"amount": []})}}),
+        ({"bank": {"params": 1}}, 1000, {"error": {"unsupported_request": {"kind": "bank.params"}}}),
+        ({"wasm": {"raw": {"contract_addr": A, "key": ""}}}, 1000, {"error": {"unsupported_request": {"kind": "wasm.raw"}}}),
+    ]
+    given = lines(GENESIS, block(1, burn), *(asks(request) for request, _, _ in requests), asks({"bank": {}}))
+    answers = [replied(1, gas, result) for _, gas, result in requests]
+    expect("a burn", ["serial"], given, DONE, lines(OPENED, wanted, *answers, invalid(1, "shape", {"bank": {}})))
+
+
+def kept_heights_can_be_asked():
+    """A utok is sent in each block, and 64 heights are kept."""
+    for newest in [0, 1, 63, 64, 65, 130]:
+        digests, amount = Digests(), 1000
+        blocks = [block(k, tx(5000, A, B, (1, "utok"))) for k in range(newest)]
+        results = [digests.answer(sent(1100, A, B, "1utok")) for _ in blocks]
+        oldest = max(0, newest - 63)
+        asked, answers = [], []
+        for height in sorted({0, oldest - 1, oldest, oldest + 1, newest - 1, newest, newest + 1, 2**64 - 1} - {-1}):
+            asked.append(query(A, height=height))
+            if height > newest:
+                answers.append(replied(newest, 0, {"not_yet": {"newest": newest}}, height))
+            elif height < oldest:
+                answers.append(replied(newest, 0, {"pruned": {"newest": newest, "oldest": oldest}}, height))
+            else:
+                answers.append(balance(newest, amount - height, height=height))
+        given = lines(genesis(None, [(A, [(amount, "utok")])]), *blocks, *asked)
+        expect(f"heights after {newest} blocks", ["serial"], given, DONE, lines(OPENED, *results, *answers))
 
 
 def limits_are_kept():
     mebibytes = 8 * 2**20
     for what, line, status, answers in [
-        ("a byte that is no text", b"\xff", BAD_LINE, [bad("form", 2)]),
+        ("a byte that is no text", b"\xff", BAD_LINE, [bad("json", 2)]),
         ("a line of eight mebibytes", b" " * mebibytes, DONE, []),
         ("a line of a byte more", b" " * (mebibytes + 1), BAD_LINE, [bad("long", 2)]),
     ]:
         expect(what, ["serial"], lines(GENESIS) + line, status, lines(OPENED, *answers))
-    for lists, status, answer in [(125, DONE, Digests().answer()), (126, BAD_LINE, bad("form", 2))]:
+    for lists, status, answer in [(125, DONE, Digests().answer()), (126, BAD_LINE, bad("json", 2))]:
         nested = '{"block":{"time":"1","txs":[],"x":' + "[" * lists + "]" * lists + "}}"
         expect(f"{lists} lists in one another", ["serial"], lines(GENESIS, nested), status, lines(OPENED, answer))
     blanks = b" " * 16383 + b"\n"
@@ -260,12 +364,12 @@ def blocks_of_sends_beside_a_plain_map():
         return sent(cost, sender, recipient, ",".join(f"{amount}{denom}" for amount, denom in sent_coins))
 
     for height in range(1, 41):
-        sends = []
+        rows = []
         for _ in range(20):
             sent_coins = [(chance.randrange(1, 20), denom) for denom in chance.choice([["atok"], ["utok"], ["atok", "utok"]])]
-            sends.append((1050 + 50 * chance.randrange(8), chance.choice([A, B, C]), chance.choice([A, B, C]), sent_coins))
-        given.append(block(height, *(tx(gas, sender, recipient, *sent_coins) for gas, sender, recipient, sent_coins in sends)))
-        answers.append(digests.answer(*(result(*send) for send in sends)))
+            rows.append((1050 + 50 * chance.randrange(8), chance.choice([A, B, C]), chance.choice([A, B, C]), sent_coins))
+        given.append(block(height, *(tx(gas, sender, recipient, *sent_coins) for gas, sender, recipient, sent_coins in rows)))
+        answers.append(digests.answer(*(result(*row) for row in rows)))
         for who in [A, B, C]:
             for denom in ["atok", "utok"]:
                 given.append(query(who, denom))
@@ -310,6 +414,9 @@ each_line_is_answered()
 a_send_to_oneself_changes_nothing()
 a_bad_line_ends_the_run()
 an_address_is_read_in_either_case()
+what_fails_in_a_transaction_is_told_with_its_gas()
+a_burn_is_seen_by_queries()
+kept_heights_can_be_asked()
 limits_are_kept()
 a_failed_read_ends_the_run_after_the_answers_before_it()
 a_failed_write_ends_the_run_after_the_bytes_before_it()

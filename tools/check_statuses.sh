@@ -59,7 +59,7 @@ printf '%s\n' "$missing" >"$wanted"
 "$program" serial <"$work/nothing" >"$found"
 compare "no input" 3 $? "$wanted" "$found"
 
-{ head -n 1 "$crate/stdout" && printf '%s\n' '{"bad_line":{"kind":"form","line":2}}'; } >"$wanted"
+{ head -n 1 "$crate/stdout" && printf '%s\n' '{"bad_line":{"kind":"shape","line":2}}'; } >"$wanted"
 { head -n 1 "$crate/stdin" && printf '%s\n' '{"block":{}}'; } | "$program" serial >"$found"
 compare "a bad line behind the genesis" 3 $? "$wanted" "$found"
 

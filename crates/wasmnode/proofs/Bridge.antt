@@ -1,63 +1,79 @@
--- The lines that answer entries one after the other are the texts of a run.
-use Rattle.std.proofs.Common.{◌≡◌, ◌<◌, ◌+◌, ◌++◌, ◌∷◌, [], ℕ, List, length, drop, get_or, Option, None, Some, option_map, subst, sym, ap, ◌∙◌, refl, arith}
-use Rattle.std.proofs.KnownBytes.{Appends-nil, Appends-trans}
-use Rattle.std.proofs.lemmas.List.{drop_more, length-drop}
-use Rattle.std.proofs.lemmas.List.Sums.{fold_more}
-use Rattle.std.specs.Io.KnownBytes.{Appends, prepend_known}
-use Rattle.line_protocol.specs.declared.lines.Lines.{Lines}
-use Rattle.line_protocol.specs.Lines.{raws_of}
-use Rattle.line_protocol.specs.Progress.{kept, number, size}
-use Rattle.wasmnode.specs.Chain.{chain_start, chain_next, block_line, answer_line}
-use Rattle.wasmnode.specs.Opening.{Opening}
-use Rattle.wasmnode.specs.Playing.{Start, script, reading_left, Never, Opens, Answered, Ran}
-use Rattle.wasmnode.specs.Reading.{Entry, delivers, asks, Bad, Rest, reading, reading_from}
-use Rattle.wasmnode.specs.Run.{blocks_of, chain_at, texts, heights, genesis_answer}
-use Rattle.wasmnode.specs.Sends.{Send}
+-- The texts of entries answered one after the other are those of a run, and their heights are lawful.
+use Rattle.std.proofs.Common.{◌≡◌, ◌≤◌, ◌+◌, ◌==◌, ◌++◌, ◌∷◌, [], ℕ, Bool, true, false, List, length, take, fold, Option, nat_lt, if◌then◌else◌, refl, sym, ap, ◌∙◌, arith, append_assoc, append-nil, length-append}
+use Rattle.std.proofs.lemmas.Bool.Decides.{nat_tests}
+use Rattle.std.proofs.lemmas.List.{take-append-le}
+use Rattle.std.specs.Prelude.{unwrap_or}
+use Rattle.chain_records.specs.State.{State}
+use Rattle.chain_msgs.specs.Plain.{Block}
+use Rattle.line_protocol.specs.Forms.{Question}
+use Rattle.line_protocol.specs.Texts.{line_text, query_data}
+use Rattle.wasmnode.specs.Chain.{chain_next, chain_start, block_answer, reply_at, query_answer}
+use Rattle.wasmnode.specs.History.{History, begun, newest, chain_of, state_of, with_block, entry_text, entry_next, script}
+use Rattle.wasmnode.specs.Playing.{after}
+use Rattle.wasmnode.specs.Reading.{Opening, Entry, delivers, asks}
+use Rattle.wasmnode.specs.Run.{blocks_of, chain_at, AreLawful, heights, texts}
 
-first_left : (blocks : List (List Send)) (k : ℕ) (sends : List Send) (more : List (List Send)) → drop k blocks ≡ sends ∷ more
-    → (k < length blocks) × (get_or blocks k sends ≡ sends) × (drop (k + 1) blocks ≡ more)
-first_left blocks k sends more left =
-    let counts = sym (length-drop k blocks) ∙ ap length left in
-    let within : k < length blocks = omega (arith, counts) in
-    let splits = sym (drop_more blocks k sends within) ∙ left in
-    (within, ap (λ l. get_or l 0 sends) splits, ap (drop 1) splits)
+-- ---- replies
 
-pub script_is_texts : (o : Opening) (blocks : List (List Send)) (k : ℕ) (entries : List Entry) → (chain_at o blocks k).height ≡ k → drop k blocks ≡ blocks_of entries
-    → script (chain_at o blocks k) entries ≡ texts o blocks k entries (heights k entries)
-script_is_texts o blocks k [] tall left = refl
-script_is_texts o blocks k (delivers sends ∷ entries) tall left =
-    let f = first_left blocks k sends (blocks_of entries) left in
-    let next : chain_at o blocks (k + 1) ≡ chain_next (chain_at o blocks k) sends =
-    fold_more chain_next (chain_start o) blocks k sends f.0 ∙ ap (chain_next (chain_at o blocks k)) f.1 in
-    let taller : (chain_at o blocks (k + 1)).height ≡ k + 1 = ap (λ c. c.height) next ∙ ap (λ n. n + 1) tall in
-    ap (λ l. block_line (chain_at o blocks k) sends ++ l) (ap (λ c. script c entries) (sym next) ∙ script_is_texts o blocks (k + 1) entries taller f.2)
-script_is_texts o blocks k (asks ask ∷ entries) tall left =
-    ap (λ n. answer_line (chain_at o blocks k) ask n ++ script (chain_at o blocks k) entries) tall
-    ∙ ap (λ l. answer_line (chain_at o blocks k) ask k ++ l) (script_is_texts o blocks k entries tall left)
+same_reply : (f g : ℕ → State) (keep : ℕ) (q : Question) (n height : ℕ) (late : Bool) → nat_lt n height ≡ late → ((k : ℕ) → k ≤ n → f k ≡ g k) → reply_at f keep q n height ≡ reply_at g keep q n height
+same_reply f g keep q n height true is same = rw is refl
+same_reply f g keep q n height false is same =
+    let here : f height ≡ g height = same height (grind (arith, nat_tests)) in
+    rw (is, here) refl
 
--- before the first line, what the lines to come say is what the input says
-fresh_is : (held : List ℕ) (n before : ℕ) (left : Option (List ℕ)) → held ≡ [] → n ≡ 0 → before ≡ 0
-    → option_map (λ bytes. reading_from (n + 1) before (raws_of bytes)) (prepend_known held left) ≡ option_map reading left
-unfolding reading
-fresh_is held n before None empty none nothing = refl
-fresh_is held n before (Some input) empty none nothing = rw (empty, none, nothing) refl
+-- a reply rests on the states up to the newest height that it saw
+same_answer : (f g : ℕ → State) (keep : ℕ) (q : Question) (n : ℕ) → ((k : ℕ) → k ≤ n → f k ≡ g k) → query_answer f keep q n ≡ query_answer g keep q n
+same_answer f g keep q n same =
+    let height = unwrap_or q.height n in
+    ap (λ r. line_text (query_data r)) (same_reply f g keep q n height (nat_lt n height) refl same)
 
-pub reading_fresh : (lines : Lines) (left : Option (List ℕ)) → kept lines ≡ [] → number lines ≡ 0 → size lines ≡ 0 → reading_left lines left ≡ option_map reading left
-reading_fresh lines left empty none nothing = fresh_is (kept lines) (number lines) (size lines) left empty none nothing
+-- ---- texts
 
-pub ran_never : (left w : Option (List ℕ)) (b : Bad) → Never (option_map reading left) b → Ran left w w (Some b)
-ran_never None w b n = tt
-ran_never (Some input) w b n =
-    rw n (refl, Appends-nil w)
+-- blocks that come later change no height before them
+earlier : (o : Opening) (blocks more all : List Block) (k : ℕ) → all ≡ blocks ++ more → k ≤ length blocks → chain_at o blocks k ≡ chain_at o all k
+earlier o blocks more all k is within = ap (fold chain_next (chain_start o.state)) (sym (take-append-le k blocks more within) ∙ ap (take k) (sym is))
 
-pub ran_opened : (left : Option (List ℕ)) (rest : Option Rest) (start : Start) (w0 w1 w2 : Option (List ℕ)) (b : Option Bad) → Opens (option_map reading left) rest start
-    → Appends w0 w1 start.text → Answered start.chain rest w1 w2 b → Ran left w0 w2 b
-ran_opened None rest start w0 w1 w2 b o a s = tt
-ran_opened (Some input) None start w0 w1 w2 b o a s = absurd o
-ran_opened (Some input) (Some rest) start w0 w1 w2 b o a s =
-    let opening = o.0 in
-    let entries = rest.entries in
-    let begins = subst (λ st. Appends w0 w1 st.text) o.2 a in
-    let goes = subst (λ st. Appends w1 w2 (script st.chain entries)) o.2 s.1 in
-    let told = subst (Appends w1 w2) (script_is_texts opening (blocks_of entries) 0 entries refl refl) goes in
-    rw o.1 (s.0, Appends-trans w0 w1 w2 (genesis_answer opening) (texts opening (blocks_of entries) 0 entries (heights 0 entries)) begins told)
+script_is_texts : (keep : ℕ) (h : History) (entries : List Entry) (all : List Block) → all ≡ h.blocks ++ blocks_of entries
+    → script keep h entries ≡ texts (chain_at h.opening all) keep (newest h) entries (heights (newest h) entries)
+script_is_texts keep h [] all is = refl
+script_is_texts keep h (delivers b ∷ entries) all is =
+    let chains = chain_at h.opening all in
+    let here = earlier h.opening h.blocks (b ∷ blocks_of entries) all (newest h) is (omega arith) in
+    let longer : newest (with_block h b) ≡ newest h + 1 = length-append h.blocks (b ∷ []) in
+    let later = script_is_texts keep (with_block h b) entries all (is ∙ sym (append_assoc h.blocks (b ∷ []) (blocks_of entries))) in
+    ap (λ c. block_answer c b ∷ script keep (with_block h b) entries) here
+    ∙ ap (λ l. block_answer (chains (newest h)) b ∷ l) (later ∙ ap (λ n. texts chains keep n entries (heights n entries)) longer)
+script_is_texts keep h (asks q ∷ entries) all is =
+    let chains = chain_at h.opening all in
+    let here = same_answer (state_of h) (λ height. (chains height).state) keep q (newest h) (λ k within. ap (λ c. c.state) (earlier h.opening h.blocks (blocks_of entries) all k is within)) in
+    let later = script_is_texts keep h entries all is in
+    ap (λ l. l ∷ script keep h entries) here ∙ ap (λ l. query_answer (λ height. (chains height).state) keep q (newest h) ∷ l) later
+
+pub script_of : (keep : ℕ) (o : Opening) (entries : List Entry) → script keep (begun o) entries ≡ texts (chain_at o (blocks_of entries)) keep 0 entries (heights 0 entries)
+script_of keep o entries = script_is_texts keep (begun o) entries (blocks_of entries) refl
+
+pub script_append : (keep : ℕ) (h : History) (xs ys : List Entry) → script keep h (xs ++ ys) ≡ script keep h xs ++ script keep (after h xs) ys
+script_append keep h [] ys = refl
+script_append keep h (x ∷ xs) ys = ap (λ l. entry_text keep h x ∷ l) (script_append keep (entry_next h x) xs ys)
+
+-- ---- heights
+
+seen_low : (same : Bool) (n k : ℕ) → n ≤ k → (if same then k else n) ≤ k
+seen_low true n k low = omega arith
+seen_low false n k low = low
+
+heights_from : (k all : ℕ) (entries : List Entry) (seen : ℕ → ℕ) → ((client : ℕ) → seen client ≤ k) → all ≡ k + length (blocks_of entries) → AreLawful all seen k entries (heights k entries)
+heights_from k all [] seen low is = tt
+heights_from k all (delivers b ∷ entries) seen low is =
+    heights_from (k + 1) all entries seen (λ client. let l = low client in omega (arith, l)) (omega (arith, is))
+heights_from k all (asks q ∷ entries) seen low is = (
+  omega arith,
+  omega arith,
+  omega (arith, is),
+  low q.client,
+  heights_from k all entries (λ client. if client == q.client then k else seen client) (λ client. seen_low (client == q.client) (seen client) k (low client)) is,
+)
+
+-- the heights that the queries of a run on one thread see
+pub heights_lawful : (entries : List Entry) → AreLawful (length (blocks_of entries)) (λ _. 0) 0 entries (heights 0 entries)
+heights_lawful entries = heights_from 0 (length (blocks_of entries)) entries (λ _. 0) (λ client. omega arith) (omega arith)

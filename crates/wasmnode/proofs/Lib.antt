@@ -1,13 +1,15 @@
-mod Bridge
+pub mod Bridge
 pub mod Checked
 pub mod Delivering
-pub mod Denoms
-pub mod Distinct
-mod Goings
-pub mod Items
-pub mod Minting
+pub mod Ending
+pub mod Halting
+pub mod Histories
+pub mod Inputs
+pub mod Keeping
 pub mod Openings
 pub mod Parts
-mod Standings
-mod Stopping
-pub mod Supplies
+pub mod Passing
+pub mod Prefixes
+pub mod Replies
+pub mod Starting
+pub mod Stopping

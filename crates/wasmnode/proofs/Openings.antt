@@ -1,43 +1,65 @@
--- The chain that a genesis opens is its own.
-use Rattle.std.proofs.Common.{◌≡◌, refl, ap, unwrap_or, ℕ, List, Option, None, Some, IfSome}
+-- The state that a genesis opens a chain with, and the chain that stands for it.
+use Rattle.std.proofs.Common.{◌≡◌, ◌∙◌, ℕ, ◌≤◌, List, [], ◌∷◌, zip, fold, Result, Ok, Err, sym, ap, subst, refl, arith}
+use Rattle.std.specs.Prelude.{ok_or}
+use Rattle.std.specs.Result.{result_ok}
+use Rattle.coin_amounts.specs.Plain.{Coin}
+use Rattle.coin_amounts.specs.Coins.{coins_of}
+use Rattle.chain_addr.specs.Address.{address_of}
+use Rattle.chain_records.specs.Records.{PlainFacts}
+use Rattle.chain_records.specs.State.{State}
 use Rattle.chain_msgs.specs.Plain.{Genesis}
-use Rattle.line_protocol.specs.Forms.{◌>>=◌, only, is_prefix}
-use Rattle.wasmnode.specs.Addresses.{Address, optional_address}
-use Rattle.wasmnode.specs.Opening.{Account, Opening, opening_of, accounts_of, are_distinct, fits}
+use Rattle.circular_buffer.specs.Buffer.{buffer, keep_last}
+use Rattle.state_runs.specs.Runs.{Run}
+use Rattle.bank_ledger.specs.Minted.{opening, minted}
+use Rattle.block_runner.specs.Opening.{Fault, bad_address, bad_coins, bad_supply, ◌>>=◌, all_read, only, optional_address, are_unlike, Account, fits, credited, all_credited, facts_of, opened}
+use Rattle.line_protocol.specs.Texts.{first_digest}
+use Rattle.wasmnode.specs.declared.chain.Chain as chain_type
+use Rattle.wasmnode.specs.History.{begun, state_of}
+use Rattle.wasmnode.specs.Kept.{Keeps}
+use Rattle.wasmnode.specs.Standing.{Shows, StandsFor}
+use Rattle.wasmnode.proofs.Keeping.{with_first}
 
-pub some_same : {A : Type 0} (x y : A) → Some x ≡ Some y → x ≡ y
-some_same x y same = ap (λ o. unwrap_or o x) same
+coins_keep_facts : (s : State) (address : List ℕ) (coins : List Coin) → (fold (λ t coin. minted t address coin.denom coin.amount) s coins).facts ≡ s.facts
+coins_keep_facts s address [] = refl
+coins_keep_facts s address (coin ∷ coins) = coins_keep_facts (minted s address coin.denom coin.amount) address coins
 
-abbrev pub IsOf : Genesis → Option Opening → Type 0
-IsOf g o = IfSome o (λ opening. opening.chain ≡ g)
+accounts_keep_facts : (s : State) (accounts : List Account) → (all_credited s accounts).facts ≡ s.facts
+accounts_keep_facts s [] = refl
+accounts_keep_facts s (account ∷ accounts) = accounts_keep_facts (credited s account) accounts ∙ coins_keep_facts s account.0 account.1
 
-after_step : {A : Type 0} (g : Genesis) (a : Option A) (f : A → Option Opening) → ((x : A) → IsOf g (f x)) → IsOf g (a >>= f)
-after_step g None f h = tt
-after_step g (Some x) f h = h x
+-- a part was read, and what is done with it comes to the state
+after_part : {A : Type 0} (r : Result A Fault) (f : A → Result State Fault) (s : State) → (r >>= f) ≡ Ok s → (x : A) × (f x ≡ Ok s)
+after_part (Ok x) f s is = (x, is)
+after_part (Err fault) f s is = cc
 
-abbrev opening : Genesis → Option Address → List Account → Opening
-opening g authority accounts = record { chain = g; authority = authority; accounts = accounts }
+pub opened-facts : (g : Genesis) (s : State) → opened g ≡ Ok s → (s.facts.height ≡ 0) × (s.facts.query_gas ≡ g.query_gas)
+unfolding opened
+opened-facts g s is =
+    let one = after_part (ok_or (optional_address g.prefix g.authority) bad_address) _ s is in
+    let two = after_part (ok_or (all_read (λ h. address_of g.prefix h.0) g.balances) bad_address) _ s one.1 in
+    let three = after_part (ok_or (only are_unlike two.0) bad_address) _ s two.1 in
+    let four = after_part (ok_or (all_read (λ h. result_ok (coins_of h.1)) g.balances) bad_coins) _ s three.1 in
+    let five = after_part (ok_or (only fits (zip two.0 four.0)) bad_supply) _ s four.1 in
+    let made : all_credited (opening (facts_of g one.0)) (zip two.0 four.0) ≡ s = cc in
+    let same = sym (ap (λ (t : State). t.facts) made) ∙ accounts_keep_facts (opening (facts_of g one.0)) (zip two.0 four.0) in
+    (ap (λ (f : PlainFacts). f.height) same, ap (λ (f : PlainFacts). f.query_gas) same)
 
-abbrev fitting : Genesis → Option Address → List Account → Option Opening
-fitting g authority accounts = only fits accounts >>= λ _. Some (opening g authority accounts)
-
-abbrev placed : Genesis → Option Address → List Account → Option Opening
-placed g authority accounts = only are_distinct accounts >>= λ _. fitting g authority accounts
-
-abbrev under_authority : Genesis → List ℕ → Option Address → Option Opening
-under_authority g prefix authority = accounts_of prefix g.balances >>= placed g authority
-
-abbrev under_prefix : Genesis → List ℕ → Option Opening
-under_prefix g prefix = optional_address prefix g.authority >>= under_authority g prefix
-
-placed_is : (g : Genesis) (authority : Option Address) (accounts : List Account) → IsOf g (placed g authority accounts)
-placed_is g authority accounts =
-    after_step g (only are_distinct accounts) (λ _. fitting g authority accounts) (λ _.
-    after_step g (only fits accounts) (λ _. Some (opening g authority accounts)) (λ _. refl))
-
-pub is_of : (g : Genesis) → IsOf g (opening_of g)
-unfolding opening_of
-is_of g =
-    after_step g (only is_prefix g.prefix) (under_prefix g) (λ prefix.
-    after_step g (optional_address prefix g.authority) (under_authority g prefix) (λ authority.
-    after_step g (accounts_of prefix g.balances) (placed g authority) (placed_is g authority)))
+-- the chain that a genesis opens stands for what it opens
+pub stands_first : (keep : ℕ) (g : Genesis) (s : State) (runs : List Run) (new : chain_type.Chain) → 1 ≤ keep → opened g ≡ Ok s → Shows runs s → new.heights ≡ buffer (keep_last keep (runs ∷ [])) keep → new.height ≡ 0 → new.digest ≡ first_digest → new.query_gas ≡ g.query_gas → StandsFor keep new (begun (record { genesis = g; state = s }))
+stands_first keep g s runs new some is shows heights height digest query_gas =
+    let h = begun (record { genesis = g; state = s }) in
+    let P : ℕ → List Run → Type 0 = λ height x. Shows x (state_of h height) in
+    let facts = opened-facts g s is in
+    record {
+      height = height;
+      digest = digest;
+      kept = subst (Keeps P keep 0) (sym heights) (with_first P keep runs some shows);
+      facts = record {
+        heights = λ k low.
+            let none : k ≡ 0 = omega (arith, low) in
+            ap (λ i. (state_of h i).facts.height) none ∙ facts.0 ∙ sym none;
+        limits = λ k low.
+            let none : k ≡ 0 = omega (arith, low) in
+            ap (λ i. (state_of h i).facts.query_gas) none ∙ facts.1 ∙ sym query_gas;
+      };
+    }

@@ -1,5 +1,9 @@
--- Why a run ends before the end of its input: of a line that can't be had, and of one that says nothing.
-use Rattle.std.specs.Prelude.{ℕ, ⊤}
+-- Not for readers of contracts: it serves the proofs of this crate alone.
+-- Why a run ends before the end of its input, and what it wrote until then.
+use Rattle.std.specs.Prelude.{◌≡◌, ◌≢◌, ℕ, List, Option, None, Some, IfSome, ⊤}
+use Rattle.std.specs.List.{concat}
+use Rattle.std.specs.Io.KnownBytes.{Appends, Consumes, Keeps}
+use Rattle.outside_io.specs.Pieces.{AppendsFront}
 use Rattle.line_protocol.specs.declared.line.ParseStop.{ParseStop}
 use Rattle.line_protocol.specs.declared.line.ParseStop.TheVariants as parses
 use Rattle.line_protocol.specs.declared.lines.LineStop.{LineStop}
@@ -8,7 +12,10 @@ use Rattle.wasmnode.specs.declared.stop.Stop.{Stop}
 use Rattle.wasmnode.specs.declared.stop.Stop.TheVariants.{Bad, NoMemory, ReadFault, WriteFault}
 use Rattle.wasmnode.specs.declared.status.Status.{Status}
 use Rattle.wasmnode.specs.declared.status.Status.TheVariants as statuses
-use Rattle.wasmnode.specs.Reading as bad
+use Rattle.wasmnode.specs.Reading.{reading, bad_of}
+use Rattle.wasmnode.specs.Reading as model
+use Rattle.wasmnode.specs.Run.{answers_of}
+use Rattle.wasmnode.specs.Statuses.{Writes, WritesSome, WritesFinished, WritesFront}
 
 abbrev pub stop_of_line : LineStop → Stop
 stop_of_line (lines.Bad number kind) = Bad number kind
@@ -19,19 +26,39 @@ abbrev pub stop_of_parse : ℕ → ParseStop → Stop
 stop_of_parse number (parses.Bad kind) = Bad number kind
 stop_of_parse number parses.NoMemory = NoMemory
 
--- what a stop says: of a bad line, of a failed read, of a failed write; nothing of want of memory
-abbrev pub Halts : Stop → (bad.Bad → Type 0) → Type 0 → Type 0 → Type 0
-Halts (Bad number kind) bad read write = bad (record { kind = kind; line = number })
-Halts NoMemory bad read write = ⊤
-Halts ReadFault bad read write = read
-Halts WriteFault bad read write = write
+-- these bytes were answered up to this bad line, or have none
+abbrev pub Answers : ℕ → List ℕ → Option (List ℕ) → Option (List ℕ) → Option model.Bad → Type 0
+Answers keep bytes old new bad = (bad_of (reading bytes) ≡ bad) × Appends old new (concat (answers_of keep (reading bytes)))
 
--- what a status says: that all was answered, that a bad line was, of a failed read, of a failed write; it isn't that of
--- bad words
-abbrev pub Ends : Status → Type 0 → Type 0 → Type 0 → Type 0 → Type 0
-Ends statuses.Done done bad read write = done
-Ends statuses.Usage done bad read write = ⊥
-Ends statuses.BadLine done bad read write = bad
-Ends statuses.NoMemory done bad read write = ⊤
-Ends statuses.ReadFault done bad read write = read
-Ends statuses.WriteFault done bad read write = write
+abbrev pub Answered : ℕ → Option (List ℕ) → Option (List ℕ) → Option (List ℕ) → Type 0
+Answered keep left old new = IfSome left (λ input. Answers keep input old new None)
+
+-- an input was answered up to this bad line, and so was what was taken of it
+abbrev pub AnswersBad : ℕ → Option (List ℕ) → Option (List ℕ) → Option (List ℕ) → Option (List ℕ) → model.Bad → Type 0
+AnswersBad keep before after old new bad =
+    IfSome before (λ input. Answers keep input old new (Some bad) × (taken : List ℕ) × Consumes (Some input) after taken × Answers keep taken old new (Some bad))
+
+-- what was written where a run stopped so
+abbrev pub Halts : ℕ → Option (List ℕ) → Option (List ℕ) → Option (List ℕ) → Option (List ℕ) → Stop → Type 0
+Halts keep before after old new (Bad number kind) = AnswersBad keep before after old new (record { kind = kind; line = number })
+Halts keep before after old new NoMemory = WritesSome keep before old new
+Halts keep before after old new ReadFault = WritesFinished keep before after old new
+Halts keep before after old new WriteFault = WritesFront keep before after old new
+
+-- what was written where a run ended so
+abbrev pub Ends : ℕ → Option (List ℕ) → Option (List ℕ) → Option (List ℕ) → Option (List ℕ) → Status → Type 0
+Ends keep before after old new statuses.Done = Writes keep before old new (λ bad. bad ≡ None)
+Ends keep before after old new statuses.Usage = ⊥
+Ends keep before after old new statuses.BadLine = Writes keep before old new (λ bad. bad ≢ None)
+Ends keep before after old new statuses.NoMemory = WritesSome keep before old new
+Ends keep before after old new statuses.ReadFault = WritesFinished keep before after old new
+Ends keep before after old new statuses.WriteFault = WritesFront keep before after old new
+
+-- what was added of the text of a bad line: all, none where memory was wanting, or a front
+abbrev pub Refuses : List ℕ → Option (List ℕ) → Option (List ℕ) → Status → Type 0
+Refuses text old new statuses.BadLine = Appends old new text
+Refuses text old new statuses.NoMemory = Keeps old new
+Refuses text old new statuses.WriteFault = AppendsFront old new text
+Refuses text old new statuses.Done = ⊥
+Refuses text old new statuses.Usage = ⊥
+Refuses text old new statuses.ReadFault = ⊥

@@ -1,68 +1,73 @@
 -- Not for readers of contracts: it serves the proofs of this crate alone.
--- A run as it goes: what the lines still to come say, and what answers them from a chain on.
-use Rattle.std.specs.Prelude.{◌≡◌, ◌≤◌, ℕ, ◌+◌, List, [], ◌∷◌, ◌++◌, Option, None, Some, option_map, IfSome, ⊤}
+-- A run as it goes: what the lines handed out so far said, and what answered them.
+use Rattle.std.specs.Prelude.{◌≡◌, ◌≤◌, ℕ, ◌+◌, Bool, true, false, List, [], ◌∷◌, ◌++◌, fold, Option, None, Some, ⊤}
+use Rattle.std.specs.List.{concat}
 use Rattle.std.specs.Io.KnownBytes.{Appends, Keeps}
+use Rattle.outside_io.specs.Pieces.{AppendsFront}
 use Rattle.line_protocol.specs.declared.lines.Lines.{Lines}
-use Rattle.line_protocol.specs.Lines.{raws_of, max_input}
-use Rattle.line_protocol.specs.Progress.{number, size, waiting}
-use Rattle.wasmnode.specs.Chain.{Chain, chain_start, chain_next, block_line, answer_line}
-use Rattle.wasmnode.specs.Opening.{Opening}
-use Rattle.wasmnode.specs.Reading.{Entry, delivers, asks, Bad, Rest, rest_of, Reading, never, opened, reading_from, reading, bad_of}
-use Rattle.wasmnode.specs.Run.{genesis_answer, answers_of}
-
--- a chain at height 0, and the line that answers its genesis
-pub record Start : Type 0 where
-  pub chain : Chain
-  pub text : List ℕ
-
-abbrev pub start_of : Opening → Start
-start_of opening = record { chain = chain_start opening; text = genesis_answer opening }
-
--- the line that answers an entry, and the chain after it
-abbrev pub entry_text : Chain → Entry → List ℕ
-entry_text chain (delivers sends) = block_line chain sends
-entry_text chain (asks ask) = answer_line chain ask chain.height
-
-abbrev pub entry_chain : Chain → Entry → Chain
-entry_chain chain (delivers sends) = chain_next chain sends
-entry_chain chain (asks ask) = chain
-
--- the lines that answer these entries, one after the other
-abbrev pub script : Chain → List Entry → List ℕ
-script chain [] = []
-script chain (entry ∷ entries) = entry_text chain entry ++ script (entry_chain chain entry) entries
-
--- what the lines still to come say, where the source tells them, before the genesis and after it
-abbrev pub reading_left : Lines → Option (List ℕ) → Option Reading
-reading_left lines left = option_map (λ bytes. reading_from (number lines + 1) (size lines) (raws_of bytes)) (waiting lines left)
-
-abbrev pub rest_left : List ℕ → Lines → Option (List ℕ) → Option Rest
-rest_left prefix lines left = option_map (λ bytes. rest_of prefix (number lines + 1) (size lines) (raws_of bytes)) (waiting lines left)
+use Rattle.line_protocol.specs.Lines.{Raw, raws_of, max_input, line_feed}
+use Rattle.line_protocol.specs.Progress.{kept, is_ended, number, size}
+use Rattle.wasmnode.specs.declared.chain.Chain as chain_type
+use Rattle.wasmnode.specs.declared.stop.Stop.{Stop}
+use Rattle.wasmnode.specs.declared.stop.Stop.TheVariants.{Bad, NoMemory, ReadFault, WriteFault}
+use Rattle.wasmnode.specs.Chain.{genesis_answer}
+use Rattle.wasmnode.specs.History.{History, begun, entry_text, entry_next, script}
+use Rattle.wasmnode.specs.Reading.{Said, nothing, says, refused, Opening, Entry, Rest, rest_of, Reading, opens, reading}
+use Rattle.wasmnode.specs.Standing.{StandsFor}
 
 -- as many lines were handed out as bytes at most, and of those no more than an input may have
 abbrev pub IsCounted : Lines → Type 0
 IsCounted lines = (number lines ≤ size lines) × (size lines ≤ max_input)
 
--- the lines still to come end with this bad line, before a genesis
-abbrev pub Never : Option Reading → Bad → Type 0
-Never before bad = IfSome before (λ reading. reading ≡ never bad)
+-- ---- lines that were handed out
 
--- up to the genesis, which gives this start; then come the others
-abbrev pub Opens : Option Reading → Option Rest → Start → Type 0
-Opens None after start = ⊤
-Opens (Some reading) None start = ⊥
-Opens (Some reading) (Some rest) start = (opening : Opening) × (reading ≡ opened opening rest) × (start ≡ start_of opening)
+-- once the end was read and nothing is kept, no byte can follow
+abbrev pub MayFollow : Lines → List ℕ → Type 0
+MayFollow lines more = is_ended lines ≡ true → kept lines ≡ [] → more ≡ []
 
--- the lines still to come were answered from this chain on, up to this bad line or none
-abbrev pub Answered : Chain → Option Rest → Option (List ℕ) → Option (List ℕ) → Option Bad → Type 0
-Answered chain before old new bad = IfSome before (λ rest. (bad ≡ rest.bad) × Appends old new (script chain rest.entries))
+-- there is no byte, or the last one is a line feed
+pub data IsFed (bytes : List ℕ) : Type 0 where
+  none : bytes ≡ [] → IsFed bytes
+  fed : (front : List ℕ) → bytes ≡ front ++ line_feed ∷ [] → IsFed bytes
+
+-- Some bytes of an input were handed out. With whatever may follow them they say what follows says by itself, as lines of
+-- higher numbers, made into something whole.
+pub record Passed {A : Type 0} (later : ℕ → ℕ → List Raw → A) (whole : A → Reading) (input left : List ℕ) (lines : Lines) : Type 0 where
+  pub gone : List ℕ
+  pub splits : input ≡ gone ++ (kept lines ++ left)
+  pub ends : is_ended lines ≡ false → IsFed gone
+  pub follows : (more : List ℕ) → MayFollow lines more → reading (gone ++ more) ≡ whole (later (number lines + 1) (size lines) (raws_of more))
+
+-- the same, where the source tells what it has left
+abbrev pub Passes : {A : Type 0} → (ℕ → ℕ → List Raw → A) → (A → Reading) → Option (List ℕ) → Option (List ℕ) → Lines → Type 0
+Passes later whole None left lines = ⊤
+Passes later whole (Some input) None lines = ⊥
+Passes later whole (Some input) (Some left) lines = Passed later whole input left lines
+
+-- ---- entries that were answered
+
+-- these entries stand before the rest
+abbrev pub behind : List Entry → Rest → Rest
+behind entries rest = record { entries = entries ++ rest.entries; bad = rest.bad }
+
+abbrev pub after : History → List Entry → History
+after h entries = fold entry_next h entries
+
+-- The genesis and these entries were handed out and answered: the chain is the one after them, and their texts were added.
+pub record Goes (keep : ℕ) (chain : chain_type.Chain) (lines : Lines) (before left old new : Option (List ℕ)) (opening : Opening) (entries : List Entry) : Type 0 where
+  pub stands : StandsFor keep chain (after (begun opening) entries)
+  pub passes : Passes rest_of (λ rest. opens opening (behind entries rest)) before left lines
+  pub wrote : Appends old new (concat (genesis_answer opening.genesis ∷ script keep (begun opening) entries))
 
 -- a line after the genesis was answered, if it asks anything, and this is the chain after it
-abbrev pub Follows : Chain → Option (Option Entry) → Chain → Option (List ℕ) → Option (List ℕ) → Type 0
-Follows chain None next old new = ⊥
-Follows chain (Some None) next old new = (next ≡ chain) × Keeps old new
-Follows chain (Some (Some entry)) next old new = (next ≡ entry_chain chain entry) × Appends old new (entry_text chain entry)
+abbrev pub Follows : ℕ → History → Said Entry → chain_type.Chain → Option (List ℕ) → Option (List ℕ) → Type 0
+Follows keep h nothing chain old new = StandsFor keep chain h × Keeps old new
+Follows keep h (says entry) chain old new = StandsFor keep chain (entry_next h entry) × Appends old new (entry_text keep h entry)
+Follows keep h (refused kind) chain old new = ⊥
 
--- an input was answered up to this bad line, or has none
-abbrev pub Ran : Option (List ℕ) → Option (List ℕ) → Option (List ℕ) → Option Bad → Type 0
-Ran left old new bad = IfSome left (λ input. (bad ≡ bad_of (reading input)) × Appends old new (answers_of (reading input)))
+-- why a line of this number wasn't answered, and what was added: nothing, or a front of its text where a write failed
+abbrev pub Breaks : ℕ → History → ℕ → Said Entry → Option (List ℕ) → Option (List ℕ) → Stop → Type 0
+Breaks keep h line said old new (Bad number kind) = (number ≡ line) × (said ≡ refused kind) × Keeps old new
+Breaks keep h line said old new NoMemory = Keeps old new
+Breaks keep h line said old new ReadFault = ⊥
+Breaks keep h line said old new WriteFault = (entry : Entry) × (said ≡ says entry) × AppendsFront old new (entry_text keep h entry)

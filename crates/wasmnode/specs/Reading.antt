@@ -1,37 +1,68 @@
 -- What an input says, line by line, up to the first bad line.
-use Rattle.std.specs.Prelude.{ℕ, ◌+◌, List, [], ◌∷◌, Option, None, Some, option_map}
+use Rattle.std.specs.Prelude.{ℕ, ◌+◌, List, [], ◌∷◌, Option, None, Some, Result, Ok, Err}
+use Rattle.chain_records.specs.State.{State}
+use Rattle.chain_msgs.specs.Plain.{Genesis, Block}
 use Rattle.line_protocol.specs.declared.kind.BadKind.{BadKind}
-use Rattle.line_protocol.specs.declared.kind.BadKind.TheVariants.{Form, Missing}
-use Rattle.line_protocol.specs.Forms.{◌>>=◌, Line, empty_line, genesis_line, block_line, query_line, line_of}
+use Rattle.line_protocol.specs.declared.kind.BadKind.TheVariants.{Order, Address, Coins, Supply, Missing}
+use Rattle.line_protocol.specs.Forms.{Line, empty_line, genesis_line, block_line, query_line, Question, line_of}
 use Rattle.line_protocol.specs.Lines.{Raw, raws_of, oversize}
-use Rattle.wasmnode.specs.Opening.{Opening, opening_of}
-use Rattle.wasmnode.specs.Sends.{Send, sends_of, Ask, ask_of}
+use Rattle.block_runner.specs.Opening.{Fault, bad_address, bad_coins, bad_supply, opened}
 
--- a block or a query
+-- ---- lines
+
+-- what a line says to a run: nothing, something, or that it is bad
+pub data Said (A : Type 0) : Type 0 where
+  nothing : Said A
+  says : A → Said A
+  refused : BadKind → Said A
+
+-- a genesis, and the state that it opens a chain with
+pub record Opening : Type 0 where
+  pub genesis : Genesis
+  pub state : State
+
+-- a block or a query, as it was read
 pub data Entry : Type 0 where
-  delivers : List Send → Entry
-  asks : Ask → Entry
+  delivers : Block → Entry
+  asks : Question → Entry
 
--- A line before the genesis may be empty, and then says nothing, or the genesis.
-abbrev pub opening_in : Line → Option (Option Opening)
-opening_in empty_line = Some None
-opening_in (genesis_line g) = option_map Some (opening_of g)
-opening_in (block_line b) = None
-opening_in (query_line q) = None
+abbrev pub fault_kind : Fault → BadKind
+fault_kind bad_address = Address
+fault_kind bad_coins = Coins
+fault_kind bad_supply = Supply
 
--- a line after it may be empty, a block or a query; its addresses have the prefix that the genesis says
-abbrev pub entry_in : List ℕ → Line → Option (Option Entry)
-entry_in prefix empty_line = Some None
-entry_in prefix (genesis_line g) = None
-entry_in prefix (block_line b) = option_map (λ sends. Some (delivers sends)) (sends_of prefix b.txs)
-entry_in prefix (query_line q) = option_map (λ ask. Some (asks ask)) (ask_of prefix q)
+abbrev pub opened_by : Genesis → Result State Fault → Said Opening
+opened_by g (Ok s) = says (record { genesis = g; state = s })
+opened_by g (Err fault) = refused (fault_kind fault)
 
--- what the line of this number says, if it may stand before the genesis, or after it
-abbrev pub first_said : ℕ → List ℕ → Option (Option Opening)
-first_said line text = line_of line text >>= opening_in
+-- The first line that isn't empty is the genesis.
+abbrev pub opening_in : Line → Said Opening
+opening_in empty_line = nothing
+opening_in (genesis_line g) = opened_by g (opened g)
+opening_in (block_line b) = refused Order
+opening_in (query_line q) = refused Order
 
-abbrev pub later_said : List ℕ → ℕ → List ℕ → Option (Option Entry)
-later_said prefix line text = line_of line text >>= entry_in prefix
+-- Every later one is a block or a query.
+abbrev pub entry_in : Line → Said Entry
+entry_in empty_line = nothing
+entry_in (genesis_line g) = refused Order
+entry_in (block_line b) = says (delivers b)
+entry_in (query_line q) = says (asks q)
+
+abbrev pub read_as : {A : Type 0} → (Line → Said A) → Result Line BadKind → Said A
+read_as in_line (Ok line) = in_line line
+read_as in_line (Err kind) = refused kind
+
+-- what is wrong with the size of a line comes before all else
+abbrev pub unless_large : {A : Type 0} → Option BadKind → Said A → Said A
+unless_large None said = said
+unless_large (Some kind) said = refused kind
+
+-- what the line of this number says, where so many bytes of the input stand before it
+abbrev pub said_by : {A : Type 0} → (Line → Said A) → ℕ → ℕ → Raw → Said A
+said_by in_line number before raw = unless_large (oversize before raw) (read_as in_line (line_of number raw.text))
+
+-- ---- an input
 
 -- a bad line: its kind and its number
 pub record Bad : Type 0 where
@@ -43,40 +74,35 @@ pub record Rest : Type 0 where
   pub entries : List Entry
   pub bad : Option Bad
 
-abbrev pub stopped : BadKind → ℕ → Rest
-stopped kind line = record { entries = []; bad = Some (record { kind = kind; line = line }) }
+abbrev pub later : ℕ → Said Entry → Rest → Rest
+later number nothing rest = rest
+later number (says entry) rest = record { entries = entry ∷ rest.entries; bad = rest.bad }
+later number (refused kind) rest = record { entries = []; bad = Some (record { kind = kind; line = number }) }
 
-abbrev pub later : ℕ → Option BadKind → Option (Option Entry) → Rest → Rest
-later line (Some kind) said rest = stopped kind line
-later line None None rest = stopped Form line
-later line None (Some None) rest = rest
-later line None (Some (Some entry)) rest = record { entries = entry ∷ rest.entries; bad = rest.bad }
+-- what the lines after a genesis say: the first has this number, and so many bytes stand before it
+abbrev pub rest_of : ℕ → ℕ → List Raw → Rest
+rest_of number before [] = record { entries = []; bad = None }
+rest_of number before (raw ∷ raws) = later number (said_by entry_in number before raw) (rest_of (number + 1) (before + raw.size) raws)
 
--- what the lines after a genesis with this prefix say: the first has this number, and so many bytes stand before it
-abbrev pub rest_of : List ℕ → ℕ → ℕ → List Raw → Rest
-rest_of prefix line before [] = record { entries = []; bad = None }
-rest_of prefix line before (raw ∷ raws) = later line (oversize before raw) (later_said prefix line raw.text) (rest_of prefix (line + 1) (before + raw.size) raws)
-
+-- an input up to its bad line, before a genesis or after it
 pub data Reading : Type 0 where
   never : Bad → Reading
-  opened : Opening → Rest → Reading
+  opens : Opening → Rest → Reading
 
--- the lines behind a genesis say what they do under its prefix
-abbrev pub first : ℕ → Option BadKind → Option (Option Opening) → Reading → (List ℕ → Rest) → Reading
-first line (Some kind) said reading rest = never (record { kind = kind; line = line })
-first line None None reading rest = never (record { kind = Form; line = line })
-first line None (Some None) reading rest = reading
-first line None (Some (Some opening)) reading rest = opened opening (rest opening.chain.prefix)
+abbrev pub first : ℕ → Said Opening → Reading → Rest → Reading
+first number nothing reading rest = reading
+first number (says opening) reading rest = opens opening rest
+first number (refused kind) reading rest = never (record { kind = kind; line = number })
 
 -- what the lines up to the genesis and after it say; where there is none, it is missing at the end
 abbrev pub reading_from : ℕ → ℕ → List Raw → Reading
-reading_from line before [] = never (record { kind = Missing; line = line })
-reading_from line before (raw ∷ raws) =
-    first line (oversize before raw) (first_said line raw.text) (reading_from (line + 1) (before + raw.size) raws) (λ prefix. rest_of prefix (line + 1) (before + raw.size) raws)
+reading_from number before [] = never (record { kind = Missing; line = number })
+reading_from number before (raw ∷ raws) =
+    first number (said_by opening_in number before raw) (reading_from (number + 1) (before + raw.size) raws) (rest_of (number + 1) (before + raw.size) raws)
 
 unfoldable pub reading : List ℕ → Reading
 reading input = reading_from 1 0 (raws_of input)
 
 abbrev pub bad_of : Reading → Option Bad
 bad_of (never bad) = Some bad
-bad_of (opened opening rest) = rest.bad
+bad_of (opens opening rest) = rest.bad

@@ -1,61 +1,44 @@
 -- Not for readers of contracts: it serves the proofs of this crate alone.
--- Which chain a chain in the node stands for.
-use Rattle.std.specs.Prelude.{◌≡◌, Option, None, Some, Result, Ok, Err, string_bytes}
-use Rattle.gas_meter.specs.Costs.{standard_schedule}
-use Rattle.bank_ledger.specs.Balances.{Balances}
-use Rattle.line_protocol.specs.declared.line.ParseStop.{ParseStop}
-use Rattle.line_protocol.specs.Reads.{IsStopOf}
+-- Which history a chain in the node stands for.
+use Rattle.std.specs.Prelude.{ℕ, ◌≡◌, ◌≤◌, List, Result, Ok, Err}
+use Rattle.chain_records.specs.State.{State, Spells}
+use Rattle.chain_msgs.specs.Plain.{Genesis}
+use Rattle.state_runs.specs.Runs.{Run, map_of}
+use Rattle.query_router.specs.Lawful.{IsLawful}
+use Rattle.block_runner.specs.Opening.{Fault}
+use Rattle.block_runner.specs.Answers.{Stops}
+use Rattle.block_runner.specs.declared.stop.GenesisStop.{GenesisStop}
 use Rattle.wasmnode.specs.declared.chain.Chain as chain_type
-use Rattle.wasmnode.specs.declared.entry.Start as start_type
-use Rattle.wasmnode.specs.Chain.{Chain}
-use Rattle.wasmnode.specs.Holding.{Holds}
-use Rattle.wasmnode.specs.Playing.{Start}
+use Rattle.wasmnode.specs.History.{History, begun, newest, chain_of, state_of}
+use Rattle.wasmnode.specs.Kept.{Keeps}
 
--- with these balances
-abbrev pub chain_view : chain_type.Chain → Balances → Chain
-chain_view c balances = record {
-  prefix = string_bytes c.prefix.text;
-  query_limit = c.query_limit;
-  balances = balances;
-  height = c.height;
-  digest = c.digest;
-}
+-- a snapshot of these runs is that of the state, which is lawful
+pub record Shows (runs : List Run) (s : State) : Type 0 where
+  pub spelled : Spells (map_of runs) s
+  pub lawful : IsLawful s
 
--- its records hold the balances, and its costs are the standard ones
-pub record StandsFor (chain : chain_type.Chain) (c : Chain) : Type 0 where
-  pub balances : Balances
-  pub held : Holds chain.records balances
-  pub costs : chain.costs ≡ standard_schedule
-  pub view : c ≡ chain_view chain balances
+-- each state has its height, and a query has the same gas on all
+pub record HasFacts (query_gas : ℕ) (h : History) : Type 0 where
+  pub heights : (k : ℕ) → k ≤ newest h → (state_of h k).facts.height ≡ k
+  pub limits : (k : ℕ) → k ≤ newest h → (state_of h k).facts.query_gas ≡ query_gas
 
--- there is a chain that it stands for
+-- it has a snapshot of each height that is kept, and the digest of the newest block
+pub record StandsFor (keep : ℕ) (chain : chain_type.Chain) (h : History) : Type 0 where
+  pub height : chain.height ≡ newest h
+  pub digest : chain.digest ≡ (chain_of h (newest h)).digest
+  pub kept : Keeps (λ height runs. Shows runs (state_of h height)) keep (newest h) chain.heights
+  pub facts : HasFacts chain.query_gas h
+
+-- there is a history that it stands for
 abbrev pub IsChain : chain_type.Chain → Type 0
-IsChain chain = (c : Chain) × StandsFor chain c
+IsChain chain = (keep : ℕ) × (h : History) × StandsFor keep chain h
 
--- this holds of each chain that it stands for
-abbrev pub OfChain : chain_type.Chain → (Chain → Type 0) → Type 0
-OfChain chain P = (c : Chain) → StandsFor chain c → P c
+-- this holds of each history that it stands for, and of how many heights are kept
+abbrev pub OfChain : chain_type.Chain → (ℕ → History → Type 0) → Type 0
+OfChain chain P = (keep : ℕ) (h : History) → StandsFor keep chain h → P keep h
 
--- it stands for a chain of which this holds
-abbrev pub SomeChain : chain_type.Chain → (Chain → Type 0) → Type 0
-SomeChain chain P = (c : Chain) × StandsFor chain c × P c
-
--- what a genesis opens, or why it opens nothing
-abbrev pub OpensAs : Result chain_type.Chain ParseStop → Option Chain → Type 0
-OpensAs (Ok chain) None = ⊥
-OpensAs (Ok chain) (Some c) = StandsFor chain c
-OpensAs (Err stop) opening = IsStopOf stop opening
-
-abbrev pub IsStart : start_type.Start → Start → Type 0
-IsStart start s = StandsFor start.chain s.chain × (start.text.items ≡ s.text)
-
-abbrev pub SomeStart : start_type.Start → (Start → Type 0) → Type 0
-SomeStart start P = (s : Start) × IsStart start s × P s
-
--- what a line before the genesis starts: nothing where it is empty
-abbrev pub StartsAs : Result (Option start_type.Start) ParseStop → Option (Option Start) → Type 0
-StartsAs (Ok start) None = ⊥
-StartsAs (Ok None) (Some s) = s ≡ None
-StartsAs (Ok (Some start)) (Some None) = ⊥
-StartsAs (Ok (Some start)) (Some (Some s)) = IsStart start s
-StartsAs (Err stop) said = IsStopOf stop said
+-- what a genesis opens, or the first of its faults
+abbrev pub OpensAs : ℕ → Genesis → Result chain_type.Chain GenesisStop → Result State Fault → Type 0
+OpensAs keep g (Ok chain) (Ok s) = StandsFor keep chain (begun (record { genesis = g; state = s }))
+OpensAs keep g (Ok chain) (Err fault) = ⊥
+OpensAs keep g (Err stop) opened = Stops stop opened

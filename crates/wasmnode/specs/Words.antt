@@ -5,6 +5,10 @@ use Rattle.std.specs.Str.{bytes_eq}
 use Rattle.wasmnode.specs.declared.status.Status.{Status}
 use Rattle.wasmnode.specs.declared.status.Status.TheVariants as statuses
 
+-- how many of the newest heights can be asked where no word says it
+abbrev pub standard_keep : ℕ
+standard_keep = 64
+
 abbrev pub is_comma : ℕ → Bool
 is_comma b = b == 44
 
@@ -36,15 +40,6 @@ command_of (word ∷ option ∷ text ∷ other ∷ words) = None
 
 abbrev pub usage_line : List ℕ
 usage_line = codes "usage: wasmnode run|serial|check|gen N|soak N [options]\n"
-
--- the status of words that aren't taken: the usage was written, or a write failed
-abbrev pub Explains : Status → Type 0 → Type 0 → Type 0
-Explains statuses.Usage written failed = written
-Explains statuses.WriteFault written failed = failed
-Explains statuses.Done written failed = ⊥
-Explains statuses.BadLine written failed = ⊥
-Explains statuses.NoMemory written failed = ⊥
-Explains statuses.ReadFault written failed = ⊥
 
 -- the exit status of the program
 abbrev pub number_of : Status → ℕ

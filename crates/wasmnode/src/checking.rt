@@ -1,11 +1,10 @@
-ghost use Rattle.std.specs.Prelude.{◌≡◌, ◌≤◌, true, false, length, map, string_bytes, Ok, IfOk, IfErr};
+ghost use Rattle.std.specs.Prelude.{◌≡◌, ◌≢◌, ◌≤◌, true, false, length, map, string_bytes, Ok, IfOk, IfErr};
 ghost use Rattle.std.specs.Io.KnownBytes.{Appends};
 ghost use Rattle.outside_io.specs.Cause.{Rose};
 ghost use Rattle.outside_io.specs.Pieces.{AppendsFront};
 ghost use Rattle.line_protocol.specs.Lines.{max_line};
 ghost use Rattle.line_protocol.specs.Texts.{line_text, check_data};
 ghost use Rattle.wasm_types.specs.Gate.{gate};
-ghost use Rattle.wasmnode.specs.Halts.{Halts, Ends};
 ghost use Rattle.wasmnode.specs.Checking.{unread, judged, checked, IsJudged, IsUnread, Checks, ChecksFront};
 ghost use Rattle.wasmnode.specs.Answers.{IsAnswer, AnswersFirst};
 
@@ -84,8 +83,7 @@ fn settled(answer: Result<Answer, AllocError>) -> Result<Answer, Stop>
 /// The answer to the first line of the source.
 fn answer_first<S: Source>(alloc: Global, caps: &[String], source: &mut S) -> Result<Answer, Stop>
     ensures answer { IfOk result (λ answer. AnswersFirst answer (map string_bytes caps.now) (S.left source.old)) }
-    ensures halts { IfErr result (λ stop. Halts stop (λ _. ⊥)
-        (Rose (S.faults source.old) (S.faults source.new)) ⊥) }
+    ensures cause { result ≡ Err Stop.ReadFault → Rose (S.faults source.old) (S.faults source.new) }
     ensures reads { S.faults source.old ≤ S.faults source.new }
 {
     let mut lines = Lines::new(alloc)?;
@@ -100,10 +98,12 @@ fn answer_first<S: Source>(alloc: Global, caps: &[String], source: &mut S) -> Re
 
 /// Writes the answer.
 fn put_answer<K: Sink>(sink: &mut K, answer: &Answer) -> Status
-    ensures ends { Ends result
-        ((answer.now.judged ≡ true) × Appends (K.written sink.old) (K.written sink.new) answer.now.text.items)
-        ((answer.now.judged ≡ false) × Appends (K.written sink.old) (K.written sink.new) answer.now.text.items)
-        ⊥ (Rose (K.faults sink.old) (K.faults sink.new)) }
+    ensures judged { result ≡ Status.Done → (answer.now.judged ≡ true)
+        × Appends (K.written sink.old) (K.written sink.new) answer.now.text.items }
+    ensures unread { result ≡ Status.BadLine → (answer.now.judged ≡ false)
+        × Appends (K.written sink.old) (K.written sink.new) answer.now.text.items }
+    ensures others { (result ≢ Status.Usage) × (result ≢ Status.ReadFault) }
+    ensures cause { result ≡ Status.WriteFault → Rose (K.faults sink.old) (K.faults sink.new) }
     ensures front { AppendsFront (K.written sink.old) (K.written sink.new) answer.now.text.items }
     ensures writes { K.faults sink.old ≤ K.faults sink.new }
 {
@@ -128,11 +128,13 @@ pub fn check_line<S: Source, K: Sink>(
     source: &mut S,
     sink: &mut K,
 ) -> Status
-    ensures ends { Ends result
-        (Checks (map string_bytes options.now.caps.items) (S.left source.old) (K.written sink.old) (K.written sink.new) IsJudged)
-        (Checks (map string_bytes options.now.caps.items) (S.left source.old) (K.written sink.old) (K.written sink.new) IsUnread)
-        (Rose (S.faults source.old) (S.faults source.new))
-        (Rose (K.faults sink.old) (K.faults sink.new)) }
+    ensures judged { result ≡ Status.Done → Checks (map string_bytes options.now.caps.items)
+        (S.left source.old) (K.written sink.old) (K.written sink.new) IsJudged }
+    ensures unread { result ≡ Status.BadLine → Checks (map string_bytes options.now.caps.items)
+        (S.left source.old) (K.written sink.old) (K.written sink.new) IsUnread }
+    ensures usage { result ≢ Status.Usage }
+    ensures read_cause { result ≡ Status.ReadFault → Rose (S.faults source.old) (S.faults source.new) }
+    ensures write_cause { result ≡ Status.WriteFault → Rose (K.faults sink.old) (K.faults sink.new) }
     ensures front { ChecksFront (map string_bytes options.now.caps.items) (S.left source.old)
         (K.written sink.old) (K.written sink.new) }
     ensures reads { S.faults source.old ≤ S.faults source.new }

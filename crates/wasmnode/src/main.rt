@@ -1,17 +1,13 @@
-//! A host for smart contracts on one node: what a genesis opens, what blocks of bank sends do to it, and
-//! what queries for balances are answered, line by line; and whether a chain takes a contract's code.
+//! A host for smart contracts on one node: what a genesis opens, what blocks do to it, and what queries are
+//! answered, line by line; and whether a chain takes a contract's code.
 #![tactic(auto)]
 
-mod account;
-mod address;
 mod chain;
 mod checking;
-mod deliver;
 mod entry;
+mod laws;
 mod node;
-mod opening;
 mod options;
-mod sends;
 mod serial;
 mod status;
 mod stop;

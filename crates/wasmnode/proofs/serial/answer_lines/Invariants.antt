@@ -1,11 +1,10 @@
--- The lines so far were answered: what answers those to come goes on with what answers all.
-use Rattle.std.proofs.Common.{◌≡◌, ◌-◌, ◌≤◌, ℕ, List, Option}
+-- The lines so far were answered: so was the genesis with the entries that they say.
+use Rattle.std.proofs.Common.{◌-◌, ◌≤◌, ℕ, List, [], Option}
 use Rattle.line_protocol.specs.Lines.{max_input}
 use Rattle.line_protocol.specs.Progress.{number, size, KnowsEnd}
-use Rattle.wasmnode.specs.Chain.{Chain}
-use Rattle.wasmnode.specs.Playing.{rest_left, IsCounted, Answered}
-use Rattle.wasmnode.specs.Reading.{Bad}
-use Rattle.wasmnode.specs.Standing.{StandsFor}
+use Rattle.wasmnode.specs.Playing.{IsCounted, Goes}
+use Rattle.wasmnode.specs.Reading.{Opening, Entry}
+use Rattle.wasmnode.specs.Standing.{IsChain}
 use Rattle.wasmnode.proofs.serial.answer_lines.Given as goal
 
 abbrev pub invariant-loop-line : goal.invariant-loop-line
@@ -14,10 +13,10 @@ invariant-loop-line g l =
       end : KnowsEnd l.lines (g.S.Source.left l.source);
       counted : IsCounted l.lines;
       low : l.chain.height ≤ number l.lines;
-      answered : (c : Chain) → StandsFor l.fn.chain c
-          → (n : Chain) × StandsFor l.chain n × (n.prefix ≡ c.prefix)
-          × ((last : Option (List ℕ)) (bad : Option Bad) → Answered n (rest_left c.prefix l.lines (g.S.Source.left l.source)) (g.K.Sink.written l.sink) last bad
-          → Answered c (rest_left c.prefix l.fn.lines (g.S.Source.left l.fn.source)) (g.K.Sink.written l.fn.sink) last bad);
+      stands : IsChain l.chain;
+      goes : (keep : ℕ) (input written : Option (List ℕ)) (o : Opening)
+          → Goes keep l.fn.chain l.fn.lines input (g.S.Source.left l.fn.source) written (g.K.Sink.written l.fn.sink) o []
+          → (entries : List Entry) × Goes keep l.chain l.lines input (g.S.Source.left l.source) written (g.K.Sink.written l.sink) o entries;
       reads : g.S.Source.faults l.fn.source ≤ g.S.Source.faults l.source;
       writes : g.K.Sink.faults l.fn.sink ≤ g.K.Sink.faults l.sink;
     }

@@ -1,37 +1,84 @@
-use Rattle.std.proofs.Common.{◌+◌, subst, sym}
-use Rattle.line_protocol.specs.declared.kind.BadKind.TheVariants.{Missing}
-use Rattle.line_protocol.specs.Progress.{number, size, waiting}
-use Rattle.wasmnode.specs.Playing.{reading_left, Never}
-use Rattle.wasmnode.proofs.Goings.{Handed, never_missing, opens_next}
-use Rattle.wasmnode.proofs.Standings.{some_start}
+use Rattle.std.proofs.Common.{◌≡◌, ◌+◌, ℕ, Err, ap, arith}
+use Rattle.line_protocol.specs.Progress.{number, size}
+use Rattle.wasmnode.specs.Halts.{stop_of_line, stop_of_parse}
+use Rattle.wasmnode.proofs.Halting.{HandedOut, handed_out, first_halts, missing_halts, opening_next, opening_here, opening_halts, passes_fresh}
+use Rattle.wasmnode.proofs.Stopping.{err_is}
 use Rattle.wasmnode.proofs.serial.open_chain.Goals as goal
 
-pub returns-clause-halts : goal.returns-clause-halts
-returns-clause-halts g c =
+pub loop-line-init : goal.loop-line-init
+loop-line-init g c =
+    let fresh = c.requires.fresh in
+    record {
+      end = search;
+      counted = search;
+      numbered = omega (arith, fresh.0);
+      passes = passes_fresh c.args.lines.now (g.S.Source.left c.args.source.now) fresh.2 fresh.0 fresh.1;
+      faults = omega arith;
+    }
+
+pub loop-line-preserved : goal.loop-line-preserved
+loop-line-preserved g c =
     let inv = c.loop-line.invariant in
     let lines = c.loop-line.lines in
+    let then = c.next.new.self in
+    let line = c.in-Some.line in
     let left = g.S.Source.left c.loop-line.source in
-    let end = rw c.in_default.is at c.in_ok-line.ensures.none in
-    let missing = subst (λ n. Never (reading_left lines left) (record { kind = Missing; line = n })) (sym inv.numbered) (never_missing (number lines + 1) (size lines) (waiting lines left) end) in
-    inv.never (record { kind = Missing; line = c.loop-line.number }) missing
+    let more = g.S.Source.left c.next.new.source in
+    let numbered = rw c.in-Some.is at c.in_ok-line.ensures.numbered in
+    let counts = rw c.in-Some.is at c.in_ok-line.ensures.counts in
+    let out : HandedOut lines then left more line =
+    handed_out lines then left more line numbered counts (rw c.in-Some.is at c.in_ok-line.ensures.within) (rw c.in-Some.is at c.in_ok-line.ensures.line) (rw c.in-Some.is at c.in_ok-line.ensures.ended) inv.end c.in_ok-line.ensures.end in
+    let told = rw c.in-Ok-None.field-0-is at c.in-Ok-None.ensures in
+    record {
+      end = c.in_ok-line.ensures.end;
+      counted = (omega (arith, numbered.0, numbered.1, counts.0, inv.counted.0), counts.1);
+      numbered = omega (arith, numbered.1);
+      passes = opening_next (g.S.Source.left c.args.source.now) left more lines then line inv.passes out told;
+      faults = omega (arith, inv.faults, c.in_ok-line.ensures.counted);
+    }
+
+pub returns-clause-halts : goal.returns-clause-halts
+returns-clause-halts g c = λ w.
+    let inv = c.loop-line.invariant in
+    let told = c.in_ok-line.ensures in
+    missing_halts c.args.keep c.loop-line.number (g.S.Source.left c.args.source.now) (g.S.Source.left c.loop-line.source) (g.S.Source.left c.next.new.source) w c.loop-line.lines inv.passes
+    (rw c.in_default.is at told.none) (rw c.in_default.is at told.spent) inv.numbered
+
+pub returns-in_err-line-clause-halts : goal.returns-in_err-line-clause-halts
+returns-in_err-line-clause-halts g c =
+    let inv = c.loop-line.invariant in
+    let stop = c.in_err-line.field-0.0 in
+    let told = c.in_err-line.ensures in
+    err_is _ c.from_residual.result (stop_of_line stop) c.from_residual.ensures.1
+    (λ w. first_halts c.args.keep (g.S.Source.left c.args.source.now) (g.S.Source.left c.loop-line.source) (g.S.Source.left c.next.new.source) w c.loop-line.lines stop inv.passes inv.end told.bad told.known
+    (λ is. told.open (ap (λ s. Err s) is)) (λ is. told.unfed (ap (λ s. Err s) is)))
 
 pub returns-in-Ok-Some-clause-opens : goal.returns-in-Ok-Some-clause-opens
 returns-in-Ok-Some-clause-opens g c =
+    let inv = c.loop-line.invariant in
     let lines = c.loop-line.lines in
-    let after = c.next.new.self in
+    let then = c.next.new.self in
     let line = c.in-Some.line in
-    let old = waiting lines (g.S.Source.left c.loop-line.source) in
-    let new = waiting after (g.S.Source.left c.next.new.source) in
+    let left = g.S.Source.left c.loop-line.source in
+    let more = g.S.Source.left c.next.new.source in
     let numbered = rw c.in-Some.is at c.in_ok-line.ensures.numbered in
     let counts = rw c.in-Some.is at c.in_ok-line.ensures.counts in
-    let handed : Handed line.number (size lines) (size after) line.bytes.items old new = record {
-      grows = counts.0;
-      fits = rw c.in-Some.is at c.in_ok-line.ensures.within;
-      hands = rw c.in-Some.is at c.in_ok-line.ensures.line;
-    } in
-    let told = some_start c.in-Ok-Some.start _ (rw c.in-Ok-Some.field-0-is at c.in-Ok-Some.ensures) in (
-      told.0,
-      told.1,
-      c.loop-line.invariant.opens _ told.0
-          (opens_next (number lines) line.number (number after) (size lines) (size after) line.bytes.items old new told.0 numbered.0 numbered.1 handed told.2),
-    )
+    let out : HandedOut lines then left more line =
+    handed_out lines then left more line numbered counts (rw c.in-Some.is at c.in_ok-line.ensures.within) (rw c.in-Some.is at c.in_ok-line.ensures.line) (rw c.in-Some.is at c.in_ok-line.ensures.ended) inv.end c.in_ok-line.ensures.end in
+    let told = rw c.in-Ok-Some.field-0-is at c.in-Ok-Some.ensures in
+    (told.0, told.2, opening_here told.0 (g.S.Source.left c.args.source.now) left more lines then line inv.passes out told.1)
+
+pub returns-in-Err-clause-halts : goal.returns-in-Err-clause-halts
+returns-in-Err-clause-halts g c = λ w.
+    let inv = c.loop-line.invariant in
+    let lines = c.loop-line.lines in
+    let then = c.next.new.self in
+    let line = c.in-Some.line in
+    let left = g.S.Source.left c.loop-line.source in
+    let more = g.S.Source.left c.next.new.source in
+    let numbered = rw c.in-Some.is at c.in_ok-line.ensures.numbered in
+    let counts = rw c.in-Some.is at c.in_ok-line.ensures.counts in
+    let out : HandedOut lines then left more line =
+    handed_out lines then left more line numbered counts (rw c.in-Some.is at c.in_ok-line.ensures.within) (rw c.in-Some.is at c.in_ok-line.ensures.line) (rw c.in-Some.is at c.in_ok-line.ensures.ended) inv.end c.in_ok-line.ensures.end in
+    let stop = c.in-Err.stop in
+    rw c.stop_of_parse.ensures (opening_halts c.args.keep (g.S.Source.left c.args.source.now) left more w lines then line stop inv.passes out c.in-Err.ensures)

@@ -1,10 +1,25 @@
+use Rattle.std.proofs.Common.{◌≡◌, ◌∙◌, List, [], ◌∷◌, ◌++◌, Ok, sym, ap, subst, refl}
+use Rattle.circular_buffer.specs.Buffer.{Buffer, buffer, keep_last}
 use Rattle.chain_msgs.specs.Plain.{genesis_view}
-use Rattle.wasmnode.specs.Opening.{opening_of}
-use Rattle.wasmnode.proofs.Openings.{is_of}
-use Rattle.wasmnode.proofs.Standings.{opens}
+use Rattle.chain_records.specs.State.{Bytes, Spells}
+use Rattle.state_runs.specs.Runs.{Run}
+use Rattle.line_protocol.specs.Texts.{first_digest}
+use Rattle.wasmnode.specs.declared.chain.Chain as chain_type
+use Rattle.wasmnode.specs.Standing.{OpensAs}
+use Rattle.wasmnode.proofs.Openings.{stands_first}
 use Rattle.wasmnode.proofs.chain.Chain.open.Goals as goal
 
 pub returns-clause-opens : goal.returns-clause-opens
 returns-clause-opens c =
-    let g = genesis_view c.args.genesis.now in
-    opens g c.in_ok-prefix.field-0 c.standard.result c.new.result (opening_of g) (is_of g) c.in_ok-prefix.ensures c.standard.ensures.numbers c.new.ensures.maps
+    let g = genesis_view c.args.g.now in
+    let keep = c.args.keep in
+    let made = c.in-Ok.ensures in
+    let runs = c.in_ok-from_plain.field-0 in
+    let new : chain_type.Chain = record { heights = c.push_back.new.self; height = 0; query_gas = c.args.g.now.query_gas; digest = first_digest } in
+    let heights : c.push_back.new.self ≡ buffer (keep_last keep (runs ∷ [])) keep =
+    c.push_back.ensures.items ∙ ap (λ (b : Buffer (List Run)). buffer (keep_last b.capacity (b.items ++ runs ∷ [])) b.capacity) c.in_ok-heights.ensures in
+    let stands = stands_first keep g made.0 runs new c.requires.keep made.1 (record {
+      spelled = subst (λ (m : Bytes). Spells m made.0) (sym c.in_ok-from_plain.ensures.map) made.2;
+      lawful = made.3;
+    }) heights refl refl refl in
+    subst (OpensAs keep g (Ok new)) (sym made.1) stands
