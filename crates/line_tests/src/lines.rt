@@ -121,19 +121,52 @@ fn lines_have_at_most_eight_mebibytes(rt: HostRuntime) {
     }
 }
 
-fn expect_bad(rt: &impl Abort, alloc: Global, text: &[u8]) {
-    let bad = Some(ParseStop::Bad(BadKind::Form));
+fn expect_bad(rt: &impl Abort, alloc: Global, text: &[u8], kind: BadKind) {
+    let bad = Some(ParseStop::Bad(kind));
     assert_eq!(rt; parse(alloc, 1, text).err(), bad, "{text:?}");
 }
 
 #[test]
-fn lines_of_blanks_are_empty_and_lines_of_no_form_bad(rt: HostRuntime) -> Result<(), Fail> {
+fn lines_of_blanks_are_empty(rt: HostRuntime) -> Result<(), Fail> {
     for text in ["", " \t\r"] {
         assert!(rt; matches!(parse(rt.alloc(), 1, text.as_bytes())?, Line::Empty));
     }
+    Ok(())
+}
+
+#[test]
+fn lines_that_are_no_json_are_bad(rt: HostRuntime) {
     let cases: &[&[u8]] = &[
         b"\x0b",
         b"\xff",
+        b"{\"query\":{\"client\":1,\"request\":\"\xff\"}}",
+        b"{\"query\":{\"client\":1,\"request\":1e999}}",
+        b"{\"query\":{\"client\":1,\"request\":1}} {}",
+    ];
+    for text in cases {
+        expect_bad(&rt, rt.alloc(), text, BadKind::Json);
+    }
+}
+
+#[test]
+fn lines_with_numbers_that_are_no_integers_are_bad(rt: HostRuntime) -> Result<(), Fail> {
+    for number in [
+        "1.0",
+        "1e3",
+        "18446744073709551616",
+        "-9223372036854775809",
+        "-0",
+        "1,\"more\":[0.5]",
+    ] {
+        let text = format!(in rt.alloc(); "{{\"query\":{{\"client\":1,\"request\":{number}}}}}")?;
+        expect_bad(&rt, rt.alloc(), text.as_bytes(), BadKind::Number);
+    }
+    Ok(())
+}
+
+#[test]
+fn lines_of_another_shape_are_bad(rt: HostRuntime) {
+    let cases: &[&[u8]] = &[
         b"null",
         b"[]",
         b"{}",
@@ -147,22 +180,65 @@ fn lines_of_blanks_are_empty_and_lines_of_no_form_bad(rt: HostRuntime) -> Result
         b"{\"query\":{\"client\":1}}",
         b"{\"query\":{\"client\":4294967296,\"request\":1}}",
         b"{\"query\":{\"client\":1,\"height\":-1,\"request\":1}}",
-        b"{\"query\":{\"client\":1,\"request\":\"\xff\"}}",
-        b"{\"query\":{\"client\":1,\"request\":1}} {}",
     ];
     for text in cases {
-        expect_bad(&rt, rt.alloc(), text);
+        expect_bad(&rt, rt.alloc(), text, BadKind::Shape);
     }
-    for number in [
-        "1.0",
-        "1e3",
-        "18446744073709551616",
-        "-9223372036854775809",
-        "-0",
-        "1e999",
+}
+
+/// So many letters, and then a text.
+#[derive(Drop)]
+struct Letters {
+    left: usize,
+    text: SureSource,
+}
+
+impl Source for Letters {
+    ghost use Rattle.std.specs.Prelude.{None};
+
+    ghost left = { λ _. None };
+
+    ghost faults = { λ _. 0 };
+
+    fn take(&mut self, buf: &mut [u8]) -> Result<usize, Failed> {
+        if self.left == 0 {
+            return self.text.take(buf);
+        }
+        let count = self.left.min(buf.len());
+        buf[..count].fill(b'a');
+        self.left -= count;
+        Ok(count)
+    }
+}
+
+/// Why the first line is bad.
+fn first_kind<S: Source>(alloc: Global, source: &mut S) -> Result<BadKind, Fail> {
+    let line = match Lines::new(alloc)?.next(alloc, source) {
+        Ok(line) => line.ok_or("no line")?,
+        Err(LineStop::Bad { kind, .. }) => return Ok(kind),
+        Err(stop) => return Err(Fail::from(stop)),
+    };
+    match parse(alloc, line.number, &line.bytes) {
+        Ok(_) => Err(Fail::from("no bad line")),
+        Err(ParseStop::Bad(kind)) => Ok(kind),
+        Err(stop) => Err(Fail::from(stop)),
+    }
+}
+
+#[test]
+fn of_two_kinds_of_a_bad_line_the_first_is_told(rt: HostRuntime) -> Result<(), Fail> {
+    for (left, text, want) in [
+        (1_073_741_824, "\n", BadKind::Total),
+        (1_073_741_824, "", BadKind::Long),
+        (8_388_609, "", BadKind::Long),
+        (8_388_608, "", BadKind::Json),
+        (0, "[1.5", BadKind::Json),
+        (0, "[1.5]", BadKind::Number),
+        (0, "[1,{\"a\":1.5,\"a\":2}]", BadKind::Shape),
     ] {
-        let text = format!(in rt.alloc(); "{{\"query\":{{\"client\":1,\"request\":{number}}}}}")?;
-        expect_bad(&rt, rt.alloc(), text.as_bytes());
+        let text = SureSource::new(text.as_bytes().to_vec(rt.alloc())?);
+        let found = first_kind(rt.alloc(), &mut Letters { left, text })?;
+        assert_eq!(rt; found, want);
     }
     Ok(())
 }
@@ -231,7 +307,8 @@ fn queries_are_read(rt: HostRuntime) -> Result<(), Fail> {
         question(rt.alloc(), deepest.as_bytes())?.request.len(),
         250
     );
-    expect_bad(&rt, rt.alloc(), nested_query(rt.alloc(), 126)?.as_bytes());
+    let deeper = nested_query(rt.alloc(), 126)?;
+    expect_bad(&rt, rt.alloc(), deeper.as_bytes(), BadKind::Json);
     Ok(())
 }
 
@@ -298,6 +375,7 @@ fn a_genesis_with_a_bad_field_is_bad(rt: HostRuntime) -> Result<(), Fail> {
             &rt,
             rt.alloc(),
             genesis_line(rt.alloc(), left_out, "")?.as_bytes(),
+            BadKind::Shape,
         );
     }
     for more in [
@@ -320,6 +398,7 @@ fn a_genesis_with_a_bad_field_is_bad(rt: HostRuntime) -> Result<(), Fail> {
             &rt,
             rt.alloc(),
             genesis_line(rt.alloc(), 7, more)?.as_bytes(),
+            BadKind::Shape,
         );
     }
     Ok(())
@@ -512,7 +591,6 @@ fn answers_to_codes_and_to_bad_lines_are_written(rt: HostRuntime) -> Result<(), 
         (BadKind::Supply, "supply"),
         (BadKind::Missing, "missing"),
         (BadKind::Base64, "base64"),
-        (BadKind::Form, "form"),
     ] {
         let text = bad_text(rt.alloc(), &kind, 2)?;
         let want = format!(in rt.alloc(); "{{\"bad_line\":{{\"kind\":\"{name}\",\"line\":2}}}}\n")?;
