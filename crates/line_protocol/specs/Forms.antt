@@ -1,7 +1,8 @@
 -- What a line says: nothing, or what its JSON says; or the first way in which it is bad.
-use Rattle.std.specs.Prelude.{ℕ, ◌||◌, ◌==◌, Bool, List, ok_or, Result, Ok, Err, if◌then◌else◌}
+use Rattle.std.specs.Prelude.{ℕ, ◌||◌, ◌==◌, Bool, List, Option, None, Some, ok_or, Result, Ok, Err, if◌then◌else◌}
 use Rattle.std.specs.List.{list_all}
 use Rattle.std.specs.Result.{result_ok}
+use Rattle.serde_json.specs.Data.{Data}
 use Rattle.json_shapes.specs.Json.{json_of, whole_numbered}
 use Rattle.line_protocol.specs.declared.kind.BadKind.{BadKind}
 use Rattle.line_protocol.specs.declared.kind.BadKind.TheVariants.{Json, Number, Shape}
