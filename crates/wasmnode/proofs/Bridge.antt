@@ -1,5 +1,5 @@
 -- The texts of entries answered one after the other are those of a run, and their heights are lawful.
-use Rattle.std.proofs.Common.{◌≡◌, ◌≤◌, ◌+◌, ◌==◌, ◌++◌, ◌∷◌, [], ℕ, Bool, true, false, List, length, take, fold, Option, nat_lt, if◌then◌else◌, refl, sym, ap, ◌∙◌, arith, append_assoc, append-nil, length-append}
+use Rattle.std.proofs.Common.{◌≡◌, ◌≤◌, ◌+◌, ◌==◌, ◌++◌, ◌∷◌, [], ℕ, Bool, true, false, List, length, take, fold, nat_lt, if◌then◌else◌, refl, sym, ap, ◌∙◌, arith, append_assoc, length-append}
 use Rattle.std.proofs.lemmas.Bool.Decides.{nat_tests}
 use Rattle.std.proofs.lemmas.List.{take-append-le}
 use Rattle.std.specs.Prelude.{unwrap_or}
@@ -8,7 +8,7 @@ use Rattle.chain_msgs.specs.Plain.{Block}
 use Rattle.line_protocol.specs.Forms.{Question}
 use Rattle.line_protocol.specs.Texts.{line_text, query_data}
 use Rattle.wasmnode.specs.Chain.{chain_next, chain_start, block_answer, reply_at, query_answer}
-use Rattle.wasmnode.specs.History.{History, begun, newest, chain_of, state_of, with_block, entry_text, entry_next, script}
+use Rattle.wasmnode.specs.History.{History, begun, newest, state_of, with_block, entry_text, entry_next, script}
 use Rattle.wasmnode.specs.Playing.{after}
 use Rattle.wasmnode.specs.Reading.{Opening, Entry, delivers, asks}
 use Rattle.wasmnode.specs.Run.{blocks_of, chain_at, AreLawful, heights, texts}

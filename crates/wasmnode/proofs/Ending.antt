@@ -1,28 +1,24 @@
 -- How a run ends: what the bytes that were handed out or taken say, and so what was written.
-use Rattle.std.proofs.Common.{◌≡◌, ◌≢◌, ◌≤◌, ◌+◌, ◌++◌, ◌∷◌, [], ℕ, true, false, List, Option, None, Some, IfSome, length, take, refl, sym, ap, ◌∙◌, subst, arith, append_assoc, append-nil, fold}
-use Rattle.std.proofs.KnownBytes.{Appends-nil, Appends-trans, Appends-kept}
+use Rattle.std.proofs.Common.{◌≡◌, ◌+◌, ◌++◌, ◌∷◌, [], ℕ, false, List, Option, None, Some, IfSome, length, take, refl, sym, ap, ◌∙◌, subst, arith, append_assoc, append-nil}
+use Rattle.std.proofs.KnownBytes.{Appends-nil, Appends-trans}
 use Rattle.std.proofs.Math.Seq.{take-append_seam}
-use Rattle.std.proofs.lemmas.List.Sums.{fold-append}
 use Rattle.std.specs.List.{concat}
 use Rattle.std.specs.Io.KnownBytes.{Appends, Consumes, Keeps, IsAtEnd}
 use Rattle.outside_io.specs.Pieces.{AppendsFront}
 use Rattle.line_protocol.specs.declared.kind.BadKind.{BadKind}
 use Rattle.line_protocol.specs.declared.kind.BadKind.TheVariants.{Missing}
 use Rattle.line_protocol.specs.declared.lines.Lines.{Lines}
-use Rattle.line_protocol.specs.declared.lines.LineStop.{LineStop}
 use Rattle.line_protocol.specs.declared.lines.LineStop.TheVariants as stops
-use Rattle.line_protocol.specs.Gathering.{TakesUnfed, IsShown, IsBad, IsUnfed}
+use Rattle.line_protocol.specs.Gathering.{TakesUnfed, IsShown, IsUnfed}
 use Rattle.line_protocol.specs.Lines.{Raw, raws_of, oversize, StopsAt}
 use Rattle.line_protocol.specs.Progress.{kept, is_ended, number, size, waiting, KnowsEnd}
-use Rattle.line_protocol.specs.Texts.{line_text, bad_data}
-use Rattle.wasmnode.specs.declared.chain.Chain as chain_type
 use Rattle.wasmnode.specs.Chain.{genesis_answer}
-use Rattle.wasmnode.specs.Halts.{Answers, Answered, AnswersBad, Halts, stop_of_line}
-use Rattle.wasmnode.specs.History.{begun, entry_text, entry_next, script}
-use Rattle.wasmnode.specs.Playing.{MayFollow, IsFed, none, fed, Passed, Passes, Goes, behind, after}
-use Rattle.wasmnode.specs.Reading.{Opening, Entry, Bad, Rest, Reading, never, opens, reading, rest_of, reading_from, bad_of}
+use Rattle.wasmnode.specs.Halts.{Answers, AnswersBad}
+use Rattle.wasmnode.specs.History.{begun, script}
+use Rattle.wasmnode.specs.Playing.{IsFed, none, fed, Passed, Passes, behind, after}
+use Rattle.wasmnode.specs.Reading.{Opening, Entry, Bad, Rest, Reading, never, opens, reading, rest_of, reading_from}
 use Rattle.wasmnode.specs.Run.{answers_of, bad_texts, texts_of}
-use Rattle.wasmnode.specs.Statuses.{finished, HasNoBadLine, WritesSome, WritesFinished, WritesFront}
+use Rattle.wasmnode.specs.Statuses.{finished, WritesSome, WritesFinished}
 use Rattle.wasmnode.proofs.Bridge.{script_of, script_append}
 use Rattle.wasmnode.proofs.Inputs.{finished_unfed, finished_fed, unfed_any}
 

@@ -1,9 +1,9 @@
 -- A run's stops and statuses, and the lines between: what was written at each.
-use Rattle.std.proofs.Common.{◌≡◌, ◌≢◌, ◌≤◌, ◌<◌, ◌+◌, ◌++◌, ◌∷◌, [], ℕ, true, false, List, Option, None, Some, IfSome, length, refl, sym, ap, ◌∙◌, subst, arith, append_assoc, append-nil, inl, inr}
+use Rattle.std.proofs.Common.{◌≡◌, ◌≢◌, ◌≤◌, ◌<◌, ◌+◌, ◌++◌, ◌∷◌, [], ℕ, false, List, Option, None, Some, refl, sym, ap, ◌∙◌, subst, arith, append_assoc, append-nil, inl, inr}
 use Rattle.std.proofs.KnownBytes.{Appends-nil, Appends-trans, Appends-kept}
 use Rattle.std.proofs.lemmas.List.Sums.{fold-append}
 use Rattle.std.specs.List.{concat}
-use Rattle.std.specs.Io.KnownBytes.{Appends, Consumes, Keeps, IsAtEnd}
+use Rattle.std.specs.Io.KnownBytes.{Appends, Keeps, IsAtEnd}
 use Rattle.outside_io.specs.Cause.{Rose}
 use Rattle.outside_io.specs.Pieces.{AppendsFront}
 use Rattle.line_protocol.specs.declared.kind.BadKind.{BadKind}
@@ -15,7 +15,7 @@ use Rattle.line_protocol.specs.declared.lines.RawLine.{RawLine}
 use Rattle.line_protocol.specs.declared.lines.LineStop.{LineStop}
 use Rattle.line_protocol.specs.declared.lines.LineStop.TheVariants as stops
 use Rattle.line_protocol.specs.Gathering.{TakesUnfed, IsShown, IsBad}
-use Rattle.line_protocol.specs.Lines.{Raw, raws_of, max_input, oversize, HandsOut}
+use Rattle.line_protocol.specs.Lines.{raws_of, max_input, oversize, HandsOut}
 use Rattle.line_protocol.specs.Progress.{kept, is_ended, number, size, waiting, taken_line, KnowsEnd, IsEndedLine}
 use Rattle.line_protocol.specs.Texts.{line_text, bad_data}
 use Rattle.wasmnode.specs.declared.chain.Chain as chain_type
@@ -24,18 +24,18 @@ use Rattle.wasmnode.specs.declared.status.Status.TheVariants as statuses
 use Rattle.wasmnode.specs.declared.stop.Stop.{Stop}
 use Rattle.wasmnode.specs.declared.stop.Stop.TheVariants.{Bad, NoMemory, ReadFault, WriteFault}
 use Rattle.wasmnode.specs.Chain.{genesis_answer}
-use Rattle.wasmnode.specs.Halts.{Answers, Answered, AnswersBad, Halts, Ends, Refuses, stop_of_line, stop_of_parse}
+use Rattle.wasmnode.specs.Halts.{Answered, AnswersBad, Halts, Ends, Refuses, stop_of_line, stop_of_parse}
 use Rattle.wasmnode.specs.History.{begun, entry_text, entry_next, script}
-use Rattle.wasmnode.specs.Playing.{IsFed, none, Passed, Passes, Goes, Follows, Breaks, behind, after}
+use Rattle.wasmnode.specs.Playing.{none, Passed, Passes, Goes, Follows, Breaks, behind, after}
 use Rattle.wasmnode.specs.Reading.{Said, nothing, says, refused, Opening, Entry, Rest, Reading, never, opens, reading, rest_of, reading_from, bad_of, opening_in, entry_in}
 use Rattle.wasmnode.specs.Reading as model
 use Rattle.wasmnode.specs.Run.{answers_of, bad_texts, texts_of}
 use Rattle.wasmnode.specs.Said.{IsRefused}
 use Rattle.wasmnode.specs.Standing.{StandsFor}
-use Rattle.wasmnode.specs.Statuses.{Writes, WritesSome, WritesFinished, WritesFront, IsComplete}
+use Rattle.wasmnode.specs.Statuses.{Writes, WritesSome, WritesFront, IsComplete}
 use Rattle.wasmnode.proofs.Bridge.{script_append}
-use Rattle.wasmnode.proofs.Ending.{Stopped, large_stops, refused_stops, missing_stops, unfinished, told, ended, texts_begin, some_of, front_more, concat_append, taken_known, done_known, writes_bad, writes_never, writes_finished, writes_nothing, writes_some, writes_none}
-use Rattle.wasmnode.proofs.Passing.{Handed, raw, numbered, passes_next, rest_turns, reading_turns, behind_more}
+use Rattle.wasmnode.proofs.Ending.{large_stops, refused_stops, missing_stops, unfinished, told, ended, texts_begin, some_of, front_more, concat_append, taken_known, done_known, writes_bad, writes_never, writes_finished, writes_nothing, writes_some, writes_none}
+use Rattle.wasmnode.proofs.Passing.{Handed, numbered, passes_next, rest_turns, reading_turns, behind_more}
 
 abbrev bad : BadKind → ℕ → model.Bad
 bad kind line = record { kind = kind; line = line }

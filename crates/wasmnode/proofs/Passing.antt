@@ -1,13 +1,11 @@
 -- What the bytes that were handed out say, with those behind them, after one line more.
-use Rattle.std.proofs.Common.{◌≡◌, ◌≢◌, ◌<◌, ◌≤◌, ◌+◌, ◌-◌, ◌++◌, ◌∷◌, [], ℕ, true, false, List, Option, None, Some, length, inl, inr, refl, sym, ap, ◌∙◌, subst, arith, append_assoc, append-nil, true≢false}
-use Rattle.std.specs.Io.KnownBytes.{IsAtEnd}
-use Rattle.line_protocol.specs.declared.kind.BadKind.{BadKind}
+use Rattle.std.proofs.Common.{◌≡◌, ◌<◌, ◌+◌, ◌-◌, ◌++◌, ◌∷◌, [], ℕ, true, List, Option, None, Some, length, inl, inr, refl, sym, ap, ◌∙◌, arith, append_assoc, append-nil, true≢false}
 use Rattle.line_protocol.specs.declared.lines.Lines.{Lines}
 use Rattle.line_protocol.specs.Forms.{Line, line_of}
 use Rattle.line_protocol.specs.Lines.{Raw, raws_of, oversize, HandsOut}
 use Rattle.line_protocol.specs.Progress.{kept, is_ended, number, size, waiting, KnowsEnd, IsEndedLine}
-use Rattle.wasmnode.specs.Playing.{MayFollow, IsFed, none, fed, Passed, Passes, behind}
-use Rattle.wasmnode.specs.Reading.{Said, nothing, says, refused, Opening, Entry, Rest, Reading, opens, reading, reading_from, rest_of, later, first, said_by, read_as, opening_in, entry_in}
+use Rattle.wasmnode.specs.Playing.{MayFollow, fed, Passed, Passes, behind}
+use Rattle.wasmnode.specs.Reading.{Said, Opening, Entry, Rest, Reading, reading, reading_from, rest_of, later, first, read_as, opening_in, entry_in}
 use Rattle.wasmnode.proofs.Inputs.{first_is}
 
 -- ---- one line more

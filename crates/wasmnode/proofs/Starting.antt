@@ -1,7 +1,7 @@
 -- What a line says, where it opens a chain or is answered by one.
-use Rattle.std.proofs.Common.{◌≡◌, ℕ, List, Option, Result, Ok, Err, refl, sym, ap, ◌∙◌, subst}
+use Rattle.std.proofs.Common.{◌≡◌, ℕ, List, Option, Result, Ok, Err, refl, sym, subst}
 use Rattle.std.specs.Global.{Vec}
-use Rattle.std.specs.Io.KnownBytes.{Appends, Keeps}
+use Rattle.std.specs.Io.KnownBytes.{Appends}
 use Rattle.chain_records.specs.State.{State}
 use Rattle.chain_msgs.specs.Plain.{Genesis}
 use Rattle.block_runner.specs.Opening.{Fault}

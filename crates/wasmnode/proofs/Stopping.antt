@@ -1,5 +1,5 @@
 -- What results say, where each of their facts gives another.
-use Rattle.std.proofs.Common.{◌≡◌, ◌≤◌, ℕ, Result, Ok, Err, OnOk, IfErr, IsErrAnd, sym, ap, ◌∙◌, arith}
+use Rattle.std.proofs.Common.{◌≡◌, ◌≤◌, ℕ, Result, Ok, Err, OnOk, IfErr, IsErrAnd, sym, ◌∙◌, arith}
 use Rattle.outside_io.specs.Cause.{Rose}
 
 pub rose_later : (first mid last : ℕ) → first ≤ mid → Rose mid last → Rose first last

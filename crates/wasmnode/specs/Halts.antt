@@ -1,6 +1,6 @@
 -- Not for readers of contracts: it serves the proofs of this crate alone.
 -- Why a run ends before the end of its input, and what it wrote until then.
-use Rattle.std.specs.Prelude.{◌≡◌, ◌≢◌, ℕ, List, Option, None, Some, IfSome, ⊤}
+use Rattle.std.specs.Prelude.{◌≡◌, ◌≢◌, ℕ, List, Option, None, Some, IfSome}
 use Rattle.std.specs.List.{concat}
 use Rattle.std.specs.Io.KnownBytes.{Appends, Consumes, Keeps}
 use Rattle.outside_io.specs.Pieces.{AppendsFront}

@@ -1,4 +1,4 @@
-use Rattle.std.proofs.Common.{◌≡◌, ◌∙◌, sym, subst}
+use Rattle.std.proofs.Common.{◌∙◌, sym, subst}
 use Rattle.outside_io.specs.Pieces.{AppendsFront}
 use Rattle.line_protocol.specs.Forms.{line_of}
 use Rattle.wasmnode.specs.Playing.{Breaks}

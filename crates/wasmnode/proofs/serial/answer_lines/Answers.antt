@@ -1,5 +1,4 @@
-use Rattle.std.proofs.Common.{◌≡◌, ◌∙◌, ◌+◌, ℕ, List, [], None, Some, Err, refl, ap, arith}
-use Rattle.line_protocol.specs.Progress.{number, size}
+use Rattle.std.proofs.Common.{[], Err, ap, arith}
 use Rattle.wasmnode.specs.Halts.{stop_of_line}
 use Rattle.wasmnode.specs.History.{begun}
 use Rattle.wasmnode.specs.Playing.{after}

@@ -1,6 +1,5 @@
-use Rattle.std.proofs.Common.{◌≡◌, ◌+◌, ℕ, Err, ap, arith}
-use Rattle.line_protocol.specs.Progress.{number, size}
-use Rattle.wasmnode.specs.Halts.{stop_of_line, stop_of_parse}
+use Rattle.std.proofs.Common.{Err, ap, arith}
+use Rattle.wasmnode.specs.Halts.{stop_of_line}
 use Rattle.wasmnode.proofs.Halting.{HandedOut, handed_out, first_halts, missing_halts, opening_next, opening_here, opening_halts, passes_fresh}
 use Rattle.wasmnode.proofs.Stopping.{err_is}
 use Rattle.wasmnode.proofs.serial.open_chain.Goals as goal

@@ -1,13 +1,9 @@
-use Rattle.std.proofs.Common.{◌≡◌, ◌∙◌, ◌≤◌, [], sym, ap, arith, subst}
-use Rattle.std.specs.Io.KnownBytes.{Appends}
+use Rattle.std.proofs.Common.{◌∙◌, sym, subst}
 use Rattle.outside_io.specs.Pieces.{AppendsFront}
-use Rattle.line_protocol.specs.Progress.{number, size}
-use Rattle.wasmnode.specs.declared.stop.Stop.TheVariants.{NoMemory, ReadFault, WriteFault}
 use Rattle.wasmnode.specs.Halts.{Halts}
 use Rattle.wasmnode.specs.History.{begun}
-use Rattle.wasmnode.specs.Playing.{Goes}
 use Rattle.wasmnode.proofs.Halting.{first_front, goes_first}
-use Rattle.wasmnode.proofs.Stopping.{ok_so, err_so, err_is, rose_later}
+use Rattle.wasmnode.proofs.Stopping.{ok_so, err_so, err_is}
 use Rattle.wasmnode.proofs.serial.run.Goals as goal
 
 pub answer_lines-requires-clause-stands : goal.answer_lines-requires-clause-stands
