@@ -51,7 +51,7 @@ returns-in_err-outcome-clause-leads g c =
     let sender = c.args.sender.now in
     let all = all_handled costs sender c.args.index (map view items) in
     let so_far = rw splits at c.loop-value.invariant.reaches in
-    passes_on c.from_residual-in_err-outcome.result c.in_err-outcome.field-0.0 c.from_residual-in_err-outcome.ensures.1
+    passes_on c.from_residual.result c.in_err-outcome.field-0.0 c.from_residual.ensures.1
     (reach_stop costs sender c.args.index d rest all c.in_err-outcome.field-0.0 c.fetches_join.ensures c.in_err-outcome.ensures.leads so_far)
 
 pub returns-in_err-push-clause-leads : goal.returns-in_err-push-clause-leads
