@@ -1,0 +1,21 @@
+//! Tests of a chain: what a genesis opens, what transactions, messages, queries and blocks do, and what is pinned.
+#![tactic(auto)]
+
+#[cfg(test)]
+mod acts;
+#[cfg(test)]
+mod blocks;
+#[cfg(test)]
+mod chain;
+#[cfg(test)]
+mod depth;
+#[cfg(test)]
+mod filled;
+#[cfg(test)]
+mod opening;
+#[cfg(test)]
+mod pins;
+#[cfg(test)]
+mod queries;
+#[cfg(test)]
+mod transactions;
