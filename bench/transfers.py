@@ -1,7 +1,8 @@
 #!/usr/bin/env python3
-"""Writes a run of blocks of bank sends among so many accounts, with a query after each block.
+"""Writes a run of blocks of bank sends among so many accounts, with a query after each block: of the newest height, or of
+the one so many blocks before it.
 
-usage: transfers.py ACCOUNTS BLOCKS SENDS
+usage: transfers.py ACCOUNTS BLOCKS SENDS [BEFORE]
 """
 import json
 import random
@@ -39,7 +40,7 @@ def line(value):
 
 
 def main():
-    accounts, blocks, sends = map(int, sys.argv[1:])
+    accounts, blocks, sends, *before = map(int, sys.argv[1:])
     chance = random.Random(1)
     names = [address("bench", number.to_bytes(5, "big")) for number in range(accounts)]
     line({"genesis": {
@@ -55,7 +56,8 @@ def main():
             txs.append({"gas": 5000, "msgs": [send], "sender": chance.choice(names)})
         line({"block": {"time": str(height), "txs": txs}})
         balance = {"bank": {"balance": {"address": chance.choice(names), "denom": "utok"}}}
-        line({"query": {"client": 1, "height": None, "request": balance}})
+        asked = max(0, height - before[0]) if before else None
+        line({"query": {"client": 1, "height": asked, "request": balance}})
 
 
 main()
