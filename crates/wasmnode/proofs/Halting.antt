@@ -24,7 +24,7 @@ use Rattle.wasmnode.specs.declared.status.Status.TheVariants as statuses
 use Rattle.wasmnode.specs.declared.stop.Stop.{Stop}
 use Rattle.wasmnode.specs.declared.stop.Stop.TheVariants.{Bad, NoMemory, ReadFault, WriteFault}
 use Rattle.wasmnode.specs.Chain.{genesis_answer}
-use Rattle.wasmnode.specs.Halts.{Answered, AnswersBad, Halts, Ends, Refuses, stop_of_line, stop_of_parse}
+use Rattle.wasmnode.specs.Halts.{Answers, Answered, AnswersBad, Halts, Ends, Refuses, stop_of_line, stop_of_parse}
 use Rattle.wasmnode.specs.History.{begun, entry_text, entry_next, script}
 use Rattle.wasmnode.specs.Playing.{none, Passed, Passes, Goes, Follows, Breaks, behind, after}
 use Rattle.wasmnode.specs.Reading.{Said, nothing, says, refused, Opening, Entry, Rest, Reading, never, opens, reading, rest_of, reading_from, bad_of, opening_in, entry_in}
@@ -34,7 +34,7 @@ use Rattle.wasmnode.specs.Said.{IsRefused}
 use Rattle.wasmnode.specs.Standing.{StandsFor}
 use Rattle.wasmnode.specs.Statuses.{Writes, WritesSome, WritesFront, IsComplete}
 use Rattle.wasmnode.proofs.Bridge.{script_append}
-use Rattle.wasmnode.proofs.Ending.{large_stops, refused_stops, missing_stops, unfinished, told, ended, texts_begin, some_of, front_more, concat_append, taken_known, done_known, writes_bad, writes_never, writes_finished, writes_nothing, writes_some, writes_none}
+use Rattle.wasmnode.proofs.Ending.{all_follows, large_stops, refused_stops, missing_stops, unfinished, told, ended, texts_begin, some_of, front_more, concat_append, taken_known, done_known, writes_bad, writes_never, writes_finished, writes_nothing, writes_some, writes_none}
 use Rattle.wasmnode.proofs.Passing.{Handed, numbered, passes_next, rest_turns, reading_turns, behind_more}
 
 abbrev bad : BadKind → ℕ → model.Bad
@@ -163,17 +163,24 @@ line_halts keep chain lines input left then old new o entries stops.NoMemory g e
     writes_some keep o entries left input old new lines g.passes end g.wrote
 
 -- a text was written in part
+front_of : (keep : ℕ) (o : Opening) (entries : List Entry) (entry : Entry) (bytes : List ℕ) (rest : Rest) (old mid new : Option (List ℕ)) → reading bytes ≡ goes_whole o (entries ++ entry ∷ []) rest
+    → Appends old mid (concat (told keep o entries)) → AppendsFront mid new (entry_text keep (after (begun o) entries) entry) → AppendsFront old new (concat (texts_of keep bytes))
+front_of keep o entries entry bytes rest old mid new is wrote front =
+    let text = entry_text keep (after (begun o) entries) entry in
+    let more = script keep (after (begun o) (entries ++ entry ∷ [])) rest.entries ++ bad_texts rest.bad in
+    let all : concat (texts_of keep bytes) ≡ concat (told keep o entries) ++ (text ++ concat more) =
+    ap concat (texts_begin keep o (entries ++ entry ∷ []) rest bytes is ∙ ap (λ l. l ++ more) (told_more keep o entries entry)) ∙ concat_append (told keep o entries ++ text ∷ []) more
+    ∙ ap (λ l. l ++ concat more) (concat_last (told keep o entries) text) ∙ append_assoc (concat (told keep o entries)) text (concat more) in
+    front_more old mid new (concat (told keep o entries)) text (concat more) (concat (texts_of keep bytes)) all wrote front
+
 front_known : (keep : ℕ) (o : Opening) (entries : List Entry) (entry : Entry) (input left : List ℕ) (lines : Lines) (old mid new : Option (List ℕ)) → Passed rest_of (goes_whole o (entries ++ entry ∷ [])) input left lines → KnowsEnd lines (Some left)
     → Appends old mid (concat (told keep o entries)) → AppendsFront mid new (entry_text keep (after (begun o) entries) entry) → WritesFront keep (Some input) (Some left) old new
 front_known keep o entries entry input left lines old mid new p end wrote front =
-    let t = taken_known rest_of (goes_whole o (entries ++ entry ∷ [])) input left lines p end in
-    let text = entry_text keep (after (begun o) entries) entry in
-    let rest = rest_of (number lines + 1) (size lines) (raws_of (kept lines ++ [])) in
-    let more = script keep (after (begun o) (entries ++ entry ∷ [])) rest.entries ++ bad_texts rest.bad in
-    let all : concat (texts_of keep t.0) ≡ concat (told keep o entries) ++ (text ++ concat more) =
-    ap concat (texts_begin keep o (entries ++ entry ∷ []) rest t.0 t.2 ∙ ap (λ l. l ++ more) (told_more keep o entries entry)) ∙ concat_append (told keep o entries ++ text ∷ []) more
-    ∙ ap (λ l. l ++ concat more) (concat_last (told keep o entries) text) ∙ append_assoc (concat (told keep o entries)) text (concat more) in
-    (t.0, t.1, front_more old mid new (concat (told keep o entries)) text (concat more) (concat (texts_of keep t.0)) all wrote front)
+    let whole = goes_whole o (entries ++ entry ∷ []) in
+    let t = taken_known rest_of whole input left lines p end in
+    let all = rest_of (number lines + 1) (size lines) (raws_of (kept lines ++ left)) in
+    let some = rest_of (number lines + 1) (size lines) (raws_of (kept lines ++ [])) in
+    (front_of keep o entries entry input all old mid new (all_follows rest_of whole input left lines p end) wrote front, t.0, t.1, front_of keep o entries entry t.0 some old mid new t.2 wrote front)
 
 writes_front : (keep : ℕ) (o : Opening) (entries : List Entry) (entry : Entry) (input left : Option (List ℕ)) (lines : Lines) (old mid new : Option (List ℕ)) → Passes rest_of (goes_whole o (entries ++ entry ∷ [])) input left lines → KnowsEnd lines left
     → Appends old mid (concat (told keep o entries)) → AppendsFront mid new (entry_text keep (after (begun o) entries) entry) → WritesFront keep input left old new
@@ -182,13 +189,18 @@ writes_front keep o entries entry (Some input) None lines old mid new p end wrot
 writes_front keep o entries entry (Some input) (Some left) lines old mid new p end wrote front = front_known keep o entries entry input left lines old mid new p end wrote front
 
 -- the genesis' text was
+first_of : (keep : ℕ) (o : Opening) (bytes : List ℕ) (rest : Rest) (old new : Option (List ℕ)) → reading bytes ≡ opens o rest → AppendsFront old new (genesis_answer o.genesis) → AppendsFront old new (concat (texts_of keep bytes))
+first_of keep o bytes rest old new is front =
+    let more = script keep (begun o) rest.entries ++ bad_texts rest.bad in
+    front_more old old new [] (genesis_answer o.genesis) (concat more) (concat (texts_of keep bytes)) (ap concat (texts_begin keep o [] rest bytes is)) (Appends-nil old) front
+
 first_known : (keep : ℕ) (o : Opening) (input left : List ℕ) (lines : Lines) (old new : Option (List ℕ)) → Passed rest_of (opens o) input left lines → KnowsEnd lines (Some left)
     → AppendsFront old new (genesis_answer o.genesis) → WritesFront keep (Some input) (Some left) old new
 first_known keep o input left lines old new p end front =
     let t = taken_known rest_of (opens o) input left lines p end in
-    let rest = rest_of (number lines + 1) (size lines) (raws_of (kept lines ++ [])) in
-    let more = script keep (begun o) rest.entries ++ bad_texts rest.bad in
-    (t.0, t.1, front_more old old new [] (genesis_answer o.genesis) (concat more) (concat (texts_of keep t.0)) (ap concat (texts_begin keep o [] rest t.0 t.2)) (Appends-nil old) front)
+    let all = rest_of (number lines + 1) (size lines) (raws_of (kept lines ++ left)) in
+    let some = rest_of (number lines + 1) (size lines) (raws_of (kept lines ++ [])) in
+    (first_of keep o input all old new (all_follows rest_of (opens o) input left lines p end) front, t.0, t.1, first_of keep o t.0 some old new t.2 front)
 
 pub first_front : (keep : ℕ) (o : Opening) (input left : Option (List ℕ)) (lines : Lines) (old new : Option (List ℕ)) → Passes rest_of (opens o) input left lines → KnowsEnd lines left
     → AppendsFront old new (genesis_answer o.genesis) → WritesFront keep input left old new
@@ -237,13 +249,16 @@ bad_kept keep (Some input) then old mid new b a keeps =
     let texts = answers_of keep (reading input) in
     some_of texts _ (texts_of keep input) old new (bad_text_is keep input b a.0.0) (Appends-kept old mid new (concat texts) a.0.1 keeps)
 
+bad_front_of : (keep : ℕ) (bytes : List ℕ) (old mid new : Option (List ℕ)) (b : model.Bad) → Answers keep bytes old mid (Some b) → AppendsFront mid new (line_text (bad_data b.kind b.line)) → AppendsFront old new (concat (texts_of keep bytes))
+bad_front_of keep bytes old mid new b a front =
+    let texts = answers_of keep (reading bytes) in
+    let text = line_text (bad_data b.kind b.line) in
+    front_more old mid new (concat texts) text [] (concat (texts_of keep bytes)) (ap concat (bad_text_is keep bytes b a.0) ∙ concat_append texts (text ∷ [])) a.1 front
+
 pub bad_front : (keep : ℕ) (before then old mid new : Option (List ℕ)) (b : model.Bad) → AnswersBad keep before then old mid b → AppendsFront mid new (line_text (bad_data b.kind b.line)) → WritesFront keep before then old new
 bad_front keep None then old mid new b a front = tt
 bad_front keep (Some input) then old mid new b a front =
-    let taken = a.1 in
-    let texts = answers_of keep (reading taken) in
-    let text = line_text (bad_data b.kind b.line) in
-    (taken, a.2, front_more old mid new (concat texts) text [] (concat (texts_of keep taken)) (ap concat (bad_text_is keep taken b a.3.0) ∙ concat_append texts (text ∷ [])) a.3.1 front)
+    (bad_front_of keep input old mid new b a.0 front, a.1, a.2, bad_front_of keep a.1 old mid new b a.3 front)
 
 -- no line was bad
 pub all_written : (keep : ℕ) (before old new : Option (List ℕ)) → Answered keep before old new → Writes keep before old new (λ x. x ≡ None)

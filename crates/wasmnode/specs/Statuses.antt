@@ -35,10 +35,10 @@ abbrev pub WritesFinished : ℕ → Option (List ℕ) → Option (List ℕ) → 
 WritesFinished keep before after old new =
     IfSome before (λ input. (taken : List ℕ) × Consumes (Some input) after taken × HasNoBadLine (reading (finished taken)) × Appends old new (concat (answers_of keep (reading (finished taken)))))
 
--- a front was added of the texts over what was taken of the source
+-- a front was added of the texts, and of those over what was taken of the source
 abbrev pub WritesFront : ℕ → Option (List ℕ) → Option (List ℕ) → Option (List ℕ) → Option (List ℕ) → Type 0
 WritesFront keep before after old new =
-    IfSome before (λ input. (taken : List ℕ) × Consumes (Some input) after taken × AppendsFront old new (concat (texts_of keep taken)))
+    IfSome before (λ input. AppendsFront old new (concat (texts_of keep input)) × (taken : List ℕ) × Consumes (Some input) after taken × AppendsFront old new (concat (texts_of keep taken)))
 
 -- where the input has no bad line and neither count rose, the run was done or wanted memory
 abbrev pub IsComplete : Option (List ℕ) → ℕ → ℕ → ℕ → ℕ → Status → Type 0
