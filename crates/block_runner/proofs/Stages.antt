@@ -1,5 +1,5 @@
 -- What a genesis opens a chain with, as its parts are read one after the other.
-use Rattle.std.proofs.Common.{◌≡◌, ◌∙◌, ℕ, Bool, true, false, List, zip, Option, None, Some, Result, Ok, Err, sym, ap, subst}
+use Rattle.std.proofs.Common.{◌≡◌, ◌∙◌, ℕ, Bool, true, false, List, [], ◌∷◌, zip, fold, Option, None, Some, Result, Ok, Err, sym, ap, subst, refl}
 use Rattle.std.specs.Prelude.{ok_or, if◌then◌else◌}
 use Rattle.std.specs.Result.{result_ok}
 use Rattle.coin_amounts.specs.Plain.{Coin}
@@ -8,12 +8,12 @@ use Rattle.chain_addr.specs.Address.{address_of}
 use Rattle.chain_records.specs.Records.{PlainFacts}
 use Rattle.chain_records.specs.State.{Bytes, State}
 use Rattle.chain_msgs.specs.Plain.{Genesis}
-use Rattle.bank_ledger.specs.Minted.{opening}
+use Rattle.bank_ledger.specs.Minted.{opening, minted}
 use Rattle.block_runner.specs.declared.stop.GenesisStop.{GenesisStop}
 use Rattle.block_runner.specs.declared.stop.GenesisStop.TheVariants.{Address, Coins, Supply, NoMemory}
 use Rattle.block_runner.specs.Answers.{Stops, Opens}
 use Rattle.block_runner.specs.Crediting.{IsOver, Credits}
-use Rattle.block_runner.specs.Opening.{Fault, bad_address, bad_coins, bad_supply, ◌>>=◌, all_read, only, optional_address, are_unlike, Account, fits, all_credited, facts_of, opened}
+use Rattle.block_runner.specs.Opening.{Fault, bad_address, bad_coins, bad_supply, ◌>>=◌, all_read, only, optional_address, are_unlike, Account, fits, credited, all_credited, facts_of, opened}
 use Rattle.block_runner.specs.Reads.{IsUnread}
 
 -- ---- what is left to do once some parts were read
@@ -92,11 +92,34 @@ over_stops f accounts NoMemory is = tt
 over_stops f accounts Address is = absurd is
 over_stops f accounts Coins is = absurd is
 
-ended : (f : PlainFacts) (accounts : List Account) (r : Result Bytes GenesisStop) → Credits r f accounts → Opens r (filled f accounts (fits accounts))
-ended f accounts (Ok plain) has = (all_credited (opening f) accounts, ap (filled f accounts) has.0, has.1, has.2)
-ended f accounts (Err stop) has = over_stops f accounts stop has
+-- ---- what accounts hold leaves the facts as they are
 
-pub opens : (g : Genesis) (authority : Option (List ℕ)) (addresses : List (List ℕ)) (coins : List (List Coin)) (f : PlainFacts) (r : Result Bytes GenesisStop) → HasAccounts g authority addresses coins → f ≡ facts_of g authority → Credits r f (zip addresses coins) → Opens r (opened g)
+coins_keep_facts : (s : State) (address : List ℕ) (coins : List Coin) → (fold (λ t coin. minted t address coin.denom coin.amount) s coins).facts ≡ s.facts
+coins_keep_facts s address [] = refl
+coins_keep_facts s address (coin ∷ coins) = coins_keep_facts (minted s address coin.denom coin.amount) address coins
+
+accounts_keep_facts : (s : State) (accounts : List Account) → (all_credited s accounts).facts ≡ s.facts
+accounts_keep_facts s [] = refl
+accounts_keep_facts s (account ∷ accounts) = accounts_keep_facts (credited s account) accounts ∙ coins_keep_facts s account.0 account.1
+
+-- ---- all of it
+
+ended : (g : Genesis) (authority : Option (List ℕ)) (accounts : List Account) (r : Result Bytes GenesisStop) → optional_address g.prefix g.authority ≡ Some authority → Credits r (facts_of g authority) accounts
+    → Opens g r (filled (facts_of g authority) accounts (fits accounts))
+ended g authority accounts (Ok plain) named has =
+    let f = facts_of g authority in
+    record {
+      state = all_credited (opening f) accounts;
+      opens = ap (filled f accounts) has.0;
+      spelled = has.1;
+      lawful = has.2;
+      authority = authority;
+      named = named;
+      facts = accounts_keep_facts (opening f) accounts;
+    }
+ended g authority accounts (Err stop) named has = over_stops (facts_of g authority) accounts stop has
+
+pub opens : (g : Genesis) (authority : Option (List ℕ)) (addresses : List (List ℕ)) (coins : List (List Coin)) (f : PlainFacts) (r : Result Bytes GenesisStop) → HasAccounts g authority addresses coins → f ≡ facts_of g authority → Credits r f (zip addresses coins) → Opens g r (opened g)
 opens g authority addresses coins f r has facts credits =
     let made = subst (λ (x : PlainFacts). Credits r x (zip addresses coins)) facts credits in
-    subst (Opens r) (sym (after_coins g authority addresses coins has)) (ended (facts_of g authority) (zip addresses coins) r made)
+    subst (Opens g r) (sym (after_coins g authority addresses coins has)) (ended g authority (zip addresses coins) r has.first.first made)

@@ -46,7 +46,7 @@ fn facts_of(alloc: Global, g: &Genesis, authority: Option<Vec<u8>>) -> Result<Fa
 /// The records that a chain with this genesis begins with.
 pub fn genesis(alloc: Global, g: &Genesis) -> Result<Plain, GenesisStop>
     requires prefix { IsPrefix (string_bytes g.now.prefix) }
-    ensures { Opens result (opened (genesis_view g.now)) }
+    ensures { Opens (genesis_view g.now) result (opened (genesis_view g.now)) }
 {
     let authority = optional_address(alloc, g.prefix.as_str(), &g.authority)?;
     let addresses = addresses_of(alloc, g.prefix.as_str(), &g.balances)?;

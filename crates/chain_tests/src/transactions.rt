@@ -151,6 +151,13 @@ fn what_is_wrong_with_a_transaction_is_told_with_its_gas(rt: HostRuntime) -> Res
             ),
             r#"{"code":11,"codespace":"sdk","data":[],"detail":"OutOfGas","events":[],"gas":1099}"#,
         ),
+    ];
+    expect_all(&rt, rt.alloc(), acts)
+}
+
+#[test]
+fn a_message_that_is_not_of_the_bank_is_unsupported(rt: HostRuntime) -> Result<(), Fail> {
+    let acts: &[(Act, &str)] = &[
         (
             Act::Tx("%A%", 5000, r#"[{"staking":{"delegate":{}}}]"#),
             r#"{"code":20,"codespace":"wasm","data":[],"detail":"Unsupported staking","events":[],"gas":1000}"#,

@@ -1,17 +1,18 @@
 -- The texts of entries answered one after the other are those of a run, and their heights are lawful.
-use Rattle.std.proofs.Common.{◌≡◌, ◌≤◌, ◌+◌, ◌==◌, ◌++◌, ◌∷◌, [], ℕ, Bool, true, false, List, length, take, fold, nat_lt, if◌then◌else◌, refl, sym, ap, ◌∙◌, arith, append_assoc, length-append}
+use Rattle.std.proofs.Common.{◌≡◌, ◌≤◌, ◌+◌, ◌==◌, ◌++◌, ◌∷◌, [], ℕ, Bool, true, false, List, length, take, nat_lt, if◌then◌else◌, refl, sym, ap, ◌∙◌, arith, append_assoc, length-append}
 use Rattle.std.proofs.lemmas.Bool.Decides.{nat_tests}
 use Rattle.std.proofs.lemmas.List.{take-append-le}
 use Rattle.std.specs.Prelude.{unwrap_or}
 use Rattle.chain_records.specs.State.{State}
 use Rattle.chain_msgs.specs.Plain.{Block}
 use Rattle.line_protocol.specs.Forms.{Question}
-use Rattle.line_protocol.specs.Texts.{line_text, query_data}
-use Rattle.wasmnode.specs.Chain.{chain_next, chain_start, block_answer, reply_at, query_answer}
+use Rattle.line_protocol.specs.Texts.{line_text, query_data, first_digest}
+use Rattle.wasmnode.specs.Chain.{block_answer, reply_at, query_answer}
 use Rattle.wasmnode.specs.History.{History, begun, newest, state_of, with_block, entry_text, entry_next, script}
 use Rattle.wasmnode.specs.Playing.{after}
 use Rattle.wasmnode.specs.Reading.{Opening, Entry, delivers, asks}
 use Rattle.wasmnode.specs.Run.{blocks_of, chain_at, AreLawful, heights, texts}
+use Rattle.wasmnode.proofs.Histories.{chain_over}
 
 -- ---- replies
 
@@ -31,7 +32,7 @@ same_answer f g keep q n same =
 
 -- blocks that come later change no height before them
 earlier : (o : Opening) (blocks more all : List Block) (k : ℕ) → all ≡ blocks ++ more → k ≤ length blocks → chain_at o blocks k ≡ chain_at o all k
-earlier o blocks more all k is within = ap (fold chain_next (chain_start o.state)) (sym (take-append-le k blocks more within) ∙ ap (take k) (sym is))
+earlier o blocks more all k is within = ap (chain_over o.state first_digest) (sym (take-append-le k blocks more within) ∙ ap (take k) (sym is))
 
 script_is_texts : (keep : ℕ) (h : History) (entries : List Entry) (all : List Block) → all ≡ h.blocks ++ blocks_of entries
     → script keep h entries ≡ texts (chain_at h.opening all) keep (newest h) entries (heights (newest h) entries)

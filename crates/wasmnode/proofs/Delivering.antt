@@ -7,8 +7,8 @@ use Rattle.submsg_dispatch.specs.Blocks.{next_facts}
 use Rattle.block_runner.specs.Delivering.{HasNextHeight}
 use Rattle.line_protocol.specs.Texts.{next_digest}
 use Rattle.wasmnode.specs.declared.chain.Chain as chain_type
-use Rattle.wasmnode.specs.Chain.{Chain, chain_next, block_on, block_digest, next_height}
-use Rattle.wasmnode.specs.History.{History, newest, chain_of, state_of, with_block}
+use Rattle.wasmnode.specs.Chain.{Chain, block_on, block_digest, next_height}
+use Rattle.wasmnode.specs.History.{History, newest, chain_of, state_of, chain_next, with_block}
 use Rattle.wasmnode.specs.Kept.{Keeps}
 use Rattle.wasmnode.specs.Standing.{Shows, HasFacts, StandsFor}
 use Rattle.wasmnode.proofs.Histories.{newest-with_block, earlier, latest, facts_more}

@@ -1,27 +1,42 @@
 -- A history with one block more: earlier heights are as they were, and the newest is what the block does to the one before.
-use Rattle.std.proofs.Common.{◌≡◌, ◌∙◌, ℕ, ◌+◌, ◌≤◌, ◌⊎◌, inl, inr, [], ◌∷◌, length, take, fold, sym, ap, arith, length-append}
+use Rattle.std.proofs.Common.{◌≡◌, ◌∙◌, ℕ, ◌+◌, ◌≤◌, ◌⊎◌, inl, inr, List, [], ◌∷◌, ◌++◌, length, take, fold, sym, ap, refl, arith, length-append}
 use Rattle.std.proofs.lemmas.List.{take-append-le}
-use Rattle.std.proofs.lemmas.List.Sums.{fold-append}
 use Rattle.std.proofs.Math.Nat.{eq-or-lt_of_le}
 use Rattle.std.proofs.Math.Seq.{take-append-add, take-length}
 use Rattle.chain_msgs.specs.Plain.{Block}
 use Rattle.chain_records.specs.Records.{PlainFacts}
-use Rattle.submsg_dispatch.specs.Blocks.{next_facts}
-use Rattle.wasmnode.specs.Chain.{Chain, chain_start, chain_next, block_on}
-use Rattle.wasmnode.specs.History.{History, newest, chain_of, state_of, with_block}
+use Rattle.submsg_dispatch.specs.Blocks.{next_facts, block}
+use Rattle.chain_records.specs.State.{State}
+use Rattle.gas_meter.specs.Costs.{standard_schedule}
+use Rattle.line_protocol.specs.Texts.{first_digest}
+use Rattle.wasmnode.specs.Chain.{Chain, block_on, block_digest, digest_after}
+use Rattle.wasmnode.specs.History.{History, newest, chain_of, state_of, chain_next, with_block}
 use Rattle.wasmnode.specs.Standing.{HasFacts}
 
 pub newest-with_block : (h : History) (b : Block) → newest (with_block h b) ≡ newest h + 1
 newest-with_block h b = length-append h.blocks (b ∷ [])
 
+-- the chain after these blocks, the first of which comes on this state and after this digest
+abbrev pub chain_over : State → List ℕ → List Block → Chain
+chain_over start last blocks = record {
+  state = fold (λ s b. (block standard_schedule s b).state) start blocks;
+  digest = digest_after start last blocks;
+}
+
+over_more : (start : State) (last : List ℕ) (blocks : List Block) (b : Block) → chain_over start last (blocks ++ b ∷ []) ≡ chain_next (chain_over start last blocks) b
+over_more start last [] b = refl
+over_more start last (first ∷ blocks) b =
+    let chain : Chain = record { state = start; digest = last } in
+    over_more (block_on chain first).state (block_digest chain first) blocks b
+
 pub earlier : (h : History) (b : Block) (k : ℕ) → k ≤ newest h → chain_of (with_block h b) k ≡ chain_of h k
-earlier h b k low = ap (fold chain_next (chain_start h.opening.state)) (take-append-le k h.blocks (b ∷ []) low)
+earlier h b k low = ap (chain_over h.opening.state first_digest) (take-append-le k h.blocks (b ∷ []) low)
 
 pub latest : (h : History) (b : Block) → chain_of (with_block h b) (newest h + 1) ≡ chain_next (chain_of h (newest h)) b
 latest h b =
-    let start = chain_start h.opening.state in
+    let over = chain_over h.opening.state first_digest in
     let all : take (length h.blocks) h.blocks ≡ h.blocks = take-length h.blocks in
-    ap (fold chain_next start) (take-append-add h.blocks (b ∷ []) 1) ∙ fold-append chain_next start h.blocks (b ∷ []) ∙ ap (λ l. chain_next (fold chain_next start l) b) (sym all)
+    ap over (take-append-add h.blocks (b ∷ []) 1) ∙ over_more h.opening.state first_digest h.blocks b ∙ ap (λ l. chain_next (over l) b) (sym all)
 
 -- a height of the longer history is an earlier one or the newest
 pub of_more : (h : History) (b : Block) (k : ℕ) → k ≤ newest (with_block h b) → (k ≡ newest h + 1) ⊎ (k ≤ newest h)

@@ -6,6 +6,7 @@ pub mod Halting
 pub mod Histories
 pub mod Inputs
 pub mod Keeping
+pub mod Merges
 pub mod Openings
 pub mod Parts
 pub mod Passing

@@ -1,10 +1,10 @@
 -- The chain at a height, and the texts that answer a genesis, a block and a query.
-use Rattle.std.specs.Prelude.{ℕ, ◌+◌, ◌-◌, List, Option, None, Some, unwrap_or, nat_lt, if◌then◌else◌}
+use Rattle.std.specs.Prelude.{ℕ, ◌+◌, ◌-◌, List, [], ◌∷◌, take, Option, None, Some, unwrap_or, nat_lt, if◌then◌else◌}
 use Rattle.gas_meter.specs.Costs.{standard_schedule}
 use Rattle.chain_records.specs.State.{State}
 use Rattle.chain_msgs.specs.Plain.{Genesis, Block, Answer}
 use Rattle.query_router.specs.Queries.{Queried, query}
-use Rattle.submsg_dispatch.specs.Blocks.{BlockRan, block}
+use Rattle.submsg_dispatch.specs.Blocks.{BlockRan, block, state_at}
 use Rattle.line_protocol.specs.Forms.{Question}
 use Rattle.line_protocol.specs.Texts.{line_text, genesis_data, block_data, next_digest, first_digest, QueryResult, answer, out_of_gas, not_yet, pruned, QueryReply, query_data}
 
@@ -12,9 +12,6 @@ use Rattle.line_protocol.specs.Texts.{line_text, genesis_data, block_data, next_
 pub record Chain : Type 0 where
   pub state : State
   pub digest : List ℕ
-
-abbrev pub chain_start : State → Chain
-chain_start s = record { state = s; digest = first_digest }
 
 abbrev pub genesis_answer : Genesis → List ℕ
 genesis_answer g = line_text (genesis_data g)
@@ -30,8 +27,19 @@ next_height chain = chain.state.facts.height + 1
 abbrev pub block_digest : Chain → Block → List ℕ
 block_digest chain b = next_digest chain.digest (next_height chain) (block_on chain b).results
 
-abbrev pub chain_next : Chain → Block → Chain
-chain_next chain b = record { state = (block_on chain b).state; digest = block_digest chain b }
+-- the digest after these blocks, the first of which comes on this state and after this digest
+abbrev pub digest_after : State → List ℕ → List Block → List ℕ
+digest_after s last [] = last
+digest_after s last (b ∷ blocks) =
+    let chain : Chain = record { state = s; digest = last } in
+    digest_after (block_on chain b).state (block_digest chain b) blocks
+
+-- the chain after the first k blocks of a list
+abbrev pub chain_after : State → List Block → ℕ → Chain
+chain_after start blocks k = record {
+  state = state_at standard_schedule start blocks k;
+  digest = digest_after start first_digest (take k blocks);
+}
 
 abbrev pub block_answer : Chain → Block → List ℕ
 block_answer chain b = line_text (block_data (next_height chain) (block_on chain b).results (block_digest chain b))

@@ -3,7 +3,7 @@
 use Rattle.std.specs.Prelude.{ℕ, List, [], ◌∷◌, ◌++◌, length}
 use Rattle.chain_records.specs.State.{State}
 use Rattle.chain_msgs.specs.Plain.{Block}
-use Rattle.wasmnode.specs.Chain.{Chain, block_answer, query_answer}
+use Rattle.wasmnode.specs.Chain.{Chain, block_on, block_digest, block_answer, query_answer}
 use Rattle.wasmnode.specs.Reading.{Opening, Entry, delivers, asks}
 use Rattle.wasmnode.specs.Run.{chain_at}
 
@@ -23,6 +23,10 @@ chain_of h height = chain_at h.opening h.blocks height
 
 abbrev pub state_of : History → ℕ → State
 state_of h height = (chain_of h height).state
+
+-- the chain after a block more
+abbrev pub chain_next : Chain → Block → Chain
+chain_next chain b = record { state = (block_on chain b).state; digest = block_digest chain b }
 
 abbrev pub with_block : History → Block → History
 with_block h b = record { opening = h.opening; blocks = h.blocks ++ b ∷ [] }

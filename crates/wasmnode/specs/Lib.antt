@@ -6,6 +6,7 @@ pub mod Commands
 pub mod Halts
 pub mod History
 pub mod Kept
+pub mod Merging
 pub mod Playing
 pub mod Reading
 pub mod Run

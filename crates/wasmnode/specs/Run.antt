@@ -1,8 +1,8 @@
 -- What a run writes: a text for the genesis, for each block and for each query, and the bad line's.
-use Rattle.std.specs.Prelude.{ℕ, ◌+◌, ◌≤◌, ◌==◌, List, [], ◌∷◌, ◌++◌, take, fold, Option, None, Some, ⊤, if◌then◌else◌}
+use Rattle.std.specs.Prelude.{ℕ, ◌+◌, ◌≤◌, ◌==◌, List, [], ◌∷◌, ◌++◌, Option, None, Some, ⊤, if◌then◌else◌}
 use Rattle.chain_msgs.specs.Plain.{Block}
 use Rattle.line_protocol.specs.Texts.{line_text, bad_data}
-use Rattle.wasmnode.specs.Chain.{Chain, chain_start, chain_next, genesis_answer, block_answer, query_answer}
+use Rattle.wasmnode.specs.Chain.{Chain, chain_after, genesis_answer, block_answer, query_answer}
 use Rattle.wasmnode.specs.Reading.{Opening, Entry, delivers, asks, Bad, Reading, never, opens, bad_of, reading}
 
 abbrev pub blocks_of : List Entry → List Block
@@ -10,9 +10,9 @@ blocks_of [] = []
 blocks_of (delivers b ∷ entries) = b ∷ blocks_of entries
 blocks_of (asks q ∷ entries) = blocks_of entries
 
--- the chain after the first k blocks
+-- the chain after the first k blocks: its state is `state_at` of what the genesis opens
 abbrev pub chain_at : Opening → List Block → ℕ → Chain
-chain_at opening blocks k = fold chain_next (chain_start opening.state) (take k blocks)
+chain_at opening blocks k = chain_after opening.state blocks k
 
 -- ---- the heights that queries see
 

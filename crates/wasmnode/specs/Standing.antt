@@ -1,6 +1,6 @@
 -- Not for readers of contracts: it serves the proofs of this crate alone.
 -- Which history a chain in the node stands for.
-use Rattle.std.specs.Prelude.{ℕ, ◌≡◌, ◌≤◌, List, Result, Ok, Err}
+use Rattle.std.specs.Prelude.{ℕ, ◌≡◌, ◌+◌, ◌≤◌, List, length, Result, Ok, Err}
 use Rattle.chain_records.specs.State.{State, Spells}
 use Rattle.chain_msgs.specs.Plain.{Genesis}
 use Rattle.state_runs.specs.Runs.{Run, map_of}
@@ -11,11 +11,13 @@ use Rattle.block_runner.specs.declared.stop.GenesisStop.{GenesisStop}
 use Rattle.wasmnode.specs.declared.chain.Chain as chain_type
 use Rattle.wasmnode.specs.History.{History, begun, newest, chain_of, state_of}
 use Rattle.wasmnode.specs.Kept.{Keeps}
+use Rattle.wasmnode.specs.Merging.{most_runs}
 
--- a snapshot of these runs is that of the state, which is lawful
+-- a snapshot of these runs, of which there are few, is that of the state, which is lawful
 pub record Shows (runs : List Run) (s : State) : Type 0 where
   pub spelled : Spells (map_of runs) s
   pub lawful : IsLawful s
+  pub few : length runs ≤ most_runs + 1
 
 -- each state has its height, and a query has the same gas on all
 pub record HasFacts (query_gas : ℕ) (h : History) : Type 0 where

@@ -1,4 +1,4 @@
-ghost use Rattle.std.specs.Prelude.{ℕ, ◌≡◌, ◌+◌, ◌<◌, ◌≤◌, ◌^◌, Option, string_bytes, OnOk, OnErr, IfOk};
+ghost use Rattle.std.specs.Prelude.{ℕ, ◌≡◌, ◌+◌, ◌<◌, ◌≤◌, ◌^◌, Option, length, string_bytes, OnOk, OnErr, IfOk};
 ghost use Rattle.chain_addr.specs.Letters.{IsPrefix};
 ghost use Rattle.chain_msgs.specs.Plain.{genesis_view, block_view};
 ghost use Rattle.chain_records.specs.State.{State};
@@ -12,6 +12,7 @@ ghost use Rattle.block_runner.specs.Opening.{opened};
 ghost use Rattle.wasmnode.specs.Asking.{IsAnswered, IsReplied, Finds};
 ghost use Rattle.wasmnode.specs.Chain.{result_of, block_answer, reply_of, query_answer};
 ghost use Rattle.wasmnode.specs.History.{newest, chain_of, state_of, with_block};
+ghost use Rattle.wasmnode.specs.Merging.{most_runs, IsBase, IsNewestBase, HasAdded};
 ghost use Rattle.wasmnode.specs.Standing.{Shows, StandsFor, IsChain, OfChain, OpensAs};
 
 use block_runner::{GenesisStop, genesis, run_block};
@@ -81,9 +82,11 @@ fn result_of(answer: Result<Answer, QueryStop>) -> Result<QueryResult, AllocErro
     }
 }
 
-/// The same state in few enough runs that a block can be added.
+/// What a block is added to: the same state, merged exactly where it has too many runs.
 fn base_of(alloc: Global, snapshot: &Snapshot) -> Result<Snapshot, AllocError>
-    ensures { IfOk result (λ base. map_of base ≡ map_of snapshot.now) }
+    ensures map { IfOk result (λ base. map_of base ≡ map_of snapshot.now) }
+    ensures few { IfOk result (λ base. length base ≤ most_runs) }
+    ensures merged { IfOk result (λ base. IsBase snapshot.now base) }
 {
     if snapshot.runs() > MOST_RUNS {
         snapshot.merge(alloc)
@@ -117,8 +120,10 @@ impl Chain {
     /// The newest state, to which a block can be added.
     fn base(&self, alloc: Global) -> Result<Snapshot, AllocError>
         requires { IsChain self.now }
-        ensures { IfOk result (λ base. OfChain self.now (λ keep h. Shows base
+        ensures shows { IfOk result (λ base. OfChain self.now (λ keep h. Shows base
             (state_of h (newest h)))) }
+        ensures few { IfOk result (λ base. length base ≤ most_runs) }
+        ensures merged { IfOk result (λ base. IsNewestBase self.now.heights base) }
     {
         match self.heights.back() {
             Some(snapshot) => Ok(base_of(alloc, snapshot)?),
@@ -128,6 +133,7 @@ impl Chain {
 
     /// Delivers a block, and gives the line that answers it. A number of transactions that has no place
     /// in 32 bits, which no line has, is answered like want of memory. After an `Err` the chain is as it was.
+    /// The newest snapshot is merged first exactly where it has more than 16 runs.
     pub fn deliver(&mut self, alloc: Global, block: &Block) -> Result<Vec<u8>, AllocError>
         requires low { self.old.height + 1 < 2 ^ 64 }
         requires stands { IsChain self.old }
@@ -136,6 +142,7 @@ impl Chain {
         ensures next { OnOk result (OfChain self.old (λ keep h. StandsFor keep self.new
             (with_block h (block_view block.now)))) }
         ensures height { OnOk result (self.new.height ≡ self.old.height + 1) }
+        ensures runs { OnOk result (HasAdded self.old.heights self.new.heights) }
         ensures err { OnErr result (self.new ≡ self.old) }
     {
         if block.txs.len() > u32::MAX as usize {
