@@ -5,6 +5,8 @@
 mod chain;
 mod checking;
 mod entry;
+#[cfg(test)]
+mod fault_tests;
 mod laws;
 mod node;
 mod options;
