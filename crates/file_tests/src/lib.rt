@@ -1,0 +1,7 @@
+//! Tests of files of modules.
+#![tactic(auto)]
+
+#[cfg(test)]
+mod files;
+#[cfg(test)]
+mod laws;

@@ -1,0 +1,9 @@
+pub mod Texts
+pub mod Steps
+pub mod FormLaws
+pub mod PartLaws
+pub mod Shapes
+pub mod CodeLaws
+pub mod FileLaws
+pub mod Items
+pub mod Joining

@@ -1,0 +1,60 @@
+ghost use Rattle.std.specs.Prelude.{IfOk};
+ghost use Rattle.std.specs.Option.{option_map};
+ghost use Rattle.wasm_types.specs.Plain.{plain_module};
+ghost use Rattle.gatekeeper.specs.CodeBytes.{code_bytes};
+ghost use Rattle.module_file.specs.Form.{word_read};
+ghost use Rattle.module_file.specs.ModuleFile.{magic, file, module_in, IsLoaded};
+ghost use Rattle.module_file.specs.Gives.{Gives};
+
+use crate::lists::lists_at;
+use crate::stop::Stop;
+use crate::writing::MAGIC;
+use gatekeeper::ValidCode;
+use std::alloc::{AllocError, Global};
+use wasm_reader::spells;
+use wasm_types::{Module, bytes_spell_or_break, spelled_are_bounded};
+
+/// What stands behind the first four bytes of a file.
+#[tactic(auto, unfolding(crate::specs::Form::word_read))]
+fn behind_magic(bytes: &[u8]) -> Result<&[u8], Stop>
+    ensures { Gives (λ rest. (tt, rest.now)) result (word_read magic bytes.now) }
+{
+    if bytes.starts_with(&MAGIC) {
+        Ok(&bytes[MAGIC.len()..])
+    } else {
+        Err(Stop::Unreadable)
+    }
+}
+
+/// The module whose file the bytes are. Time and memory grow with the number of bytes, whatever counts
+/// they claim.
+#[tactic(auto, unfolding(crate::specs::ModuleFile::file, crate::specs::ModuleFile::module_in))]
+fn module_in(alloc: Global, bytes: &[u8]) -> Result<Module, Stop>
+    ensures { Gives plain_module result (module_in bytes.now) }
+{
+    let rest = behind_magic(bytes)?;
+    let (found, rest) = lists_at(alloc, rest)?;
+    if rest.is_empty() {
+        Ok(found)
+    } else {
+        Err(Stop::Unreadable)
+    }
+}
+
+/// The module, where the bytes are the file of the code's module. Nothing of the bytes is trusted: what
+/// they are read as is compared with the code.
+pub fn load(alloc: Global, bytes: &[u8], code: &ValidCode) -> Result<Option<Module>, AllocError>
+    ensures { IfOk result (λ found.
+        IsLoaded bytes.now (code_bytes code.now) (option_map plain_module found)) }
+{
+    bytes_spell_or_break();
+    spelled_are_bounded();
+    code.is_accepted();
+    let found = match module_in(alloc, bytes) {
+        Ok(found) => found,
+        Err(Stop::Unreadable) => return Ok(None),
+        Err(Stop::NoMemory) => return Err(AllocError),
+    };
+    let same = spells(alloc, &found, code.bytes())?;
+    if same { Ok(Some(found)) } else { Ok(None) }
+}
