@@ -1,3 +1,10 @@
 pub mod Ids
 pub mod Places
 pub mod NextPin
+pub mod Refusing
+pub mod PinnedIds
+pub mod Counted
+pub mod StoredCode
+pub mod Reading
+pub mod Writing
+pub mod Marking

@@ -1,0 +1,1 @@
+use Rattle.code_registry.proofs.authority.first_outside.Goals as goal
