@@ -1,45 +1,17 @@
 -- A block begins: its height and its time stand in the facts, and all else is as it was.
-use Rattle.std.proofs.Common.{◌≡◌, ◌≢◌, ℕ, List, Some, refl, subst}
-use Rattle.std.specs.FinMap.{insert}
+use Rattle.std.proofs.Common.{ℕ, refl}
 use Rattle.kv_layers.specs.declared.layers.Layers.{Layers}
 use Rattle.kv_layers.specs.Layers.{Stands, HasCurrent}
 use Rattle.kv_layers.specs.Maps.{new_maps, changed}
 use Rattle.kv_layers.specs.Spelling.{Writes}
-use Rattle.chain_records.specs.Keys.{PlainKey, key_bytes, IsKeyOf}
-use Rattle.chain_records.specs.Keys as keys
-use Rattle.chain_records.specs.Laws.{SpellsWritten}
-use Rattle.chain_records.specs.Records.{PlainFacts, facts, IsRecordOf}
 use Rattle.chain_records.specs.Spelled.{OfSome, HasTyped}
-use Rattle.chain_records.specs.State.{Bytes, State, entry_of, Spells, ChangesOnly}
+use Rattle.chain_records.specs.State.{Bytes, State, Spells}
 use Rattle.bank_ledger.specs.Lawful.{HasLawfulAmounts}
-use Rattle.query_router.specs.Lawful.{HasLawfulCodes, HasLawfulContracts, IsLawful, HasLawful}
-use Rattle.submsg_dispatch.specs.Blocks.{next_facts, begun}
+use Rattle.code_registry.specs.Lawful.{HasLawfulCodes}
+use Rattle.contract_admin.specs.Lawful.{HasLawfulContracts}
+use Rattle.query_router.specs.Lawful.{IsLawful, HasLawful}
+use Rattle.submsg_dispatch.specs.Blocks.{begun}
 use Rattle.block_runner.specs.Delivering.{HasNextHeight}
-
--- only the facts change
-begins : (s : State) (time : ℕ) → ChangesOnly s (begun s time) keys.facts (Some (facts (next_facts s.facts time)))
-unfolding entry_of
-begins s time = record { changed = refl; others = others }
-  where
-    others : (other : PlainKey) → other ≢ keys.facts → entry_of (begun s time) other ≡ entry_of s other
-    others keys.facts differ = absurd (differ refl)
-    others keys.counters differ = refl
-    others (keys.balance addr denom) differ = refl
-    others (keys.supply denom) differ = refl
-    others (keys.code id) differ = refl
-    others (keys.code_info id) differ = refl
-    others (keys.pin id) differ = refl
-    others (keys.contract addr) differ = refl
-    others (keys.storage addr key) differ = refl
-
--- with the bytes of these facts under those of their key
-pub spells_begun : SpellsWritten → (map : Bytes) (s : State) (f : PlainFacts) (time : ℕ) (place bytes : List ℕ) → IsKeyOf place keys.facts → IsRecordOf bytes (facts (next_facts f time)) → f ≡ s.facts → Spells map s
-    → Spells (insert map place bytes) (begun s time)
-spells_begun law map s f time place bytes of stored same spelled =
-    let written : IsRecordOf bytes (facts (next_facts s.facts time)) = subst (λ (g : PlainFacts). IsRecordOf bytes (facts (next_facts g time))) same stored in
-    subst (λ (k : List ℕ). Spells (insert map k bytes) (begun s time)) of.same
-    (subst (λ (v : List ℕ). Spells (insert map (key_bytes keys.facts) v) (begun s time)) written.same
-    (law map s (begun s time) keys.facts (facts (next_facts s.facts time)) spelled of.is_key written.is_record (begins s time)))
 
 -- ---- the state is lawful again
 

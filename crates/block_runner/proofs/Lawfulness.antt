@@ -9,7 +9,9 @@ use Rattle.chain_records.specs.State.{State, addressed_cmp}
 use Rattle.bank_ledger.specs.Lawful.{HasLawfulAmounts}
 use Rattle.bank_ledger.specs.Minted.{opening, minted}
 use Rattle.block_runner.specs.Crediting.{AreLawfulFacts}
-use Rattle.query_router.specs.Lawful.{HasLawfulCodes, HasLawfulContracts, IsLawful}
+use Rattle.code_registry.specs.Lawful.{HasLawfulCodes}
+use Rattle.contract_admin.specs.Lawful.{HasLawfulContracts}
+use Rattle.query_router.specs.Lawful.{IsLawful}
 
 no_pins : length (keys (empty {X = Unit {0}} {R = nat_cmp})) ≡ 0
 no_pins = length-map (entries (empty {X = Unit {0}} {R = nat_cmp})) _ ∙ sym (len-entries _) ∙ len-empty nat_cmp (Unit {0})

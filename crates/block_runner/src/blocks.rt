@@ -11,12 +11,11 @@ ghost use Rattle.submsg_dispatch.specs.Blocks.{begun};
 ghost use Rattle.block_runner.specs.Delivering.{HasNextHeight, Delivers};
 
 use chain_msgs::{Block, TxResult};
-use chain_records::{Key, Stored, key_bytes, one_record_changes, stored_bytes};
 use code_registry::pinned;
 use gas_meter::Schedule;
 use gatekeeper::Modules;
 use kv_layers::{Base, Delta, Layers};
-use query_router::facts;
+use state_records::{facts, set_facts};
 use std::alloc::{AllocError, Global};
 use submsg_dispatch::run_txs;
 
@@ -65,12 +64,9 @@ fn begin<B: Base>(alloc: Global, layers: &mut Layers<B>, time: u64) -> Result<()
         (λ s. begun s time)) }
     ensures depth { stacks.depth layers.new ≡ stacks.depth layers.old }
 {
-    one_record_changes();
     let mut chain = facts(alloc, &*layers)?;
     chain.height += 1;
     chain.time = time;
-    let place = key_bytes(alloc, &Key::Facts)?;
-    let bytes = stored_bytes(alloc, &Stored::Facts(chain))?;
-    layers.set(alloc, &place, &bytes)?;
+    set_facts(alloc, layers, chain)?;
     Ok(())
 }

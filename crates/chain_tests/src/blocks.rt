@@ -11,7 +11,7 @@ use gas_meter::Schedule;
 use gatekeeper::Decoding;
 use json_shapes::write_json;
 use kv_layers::{Base, Change, Plain};
-use query_router::facts;
+use state_records::facts;
 use std::alloc::Global;
 use std::process::Abort;
 use std::test::Fail;

@@ -8,6 +8,8 @@ mod blocks;
 #[cfg(test)]
 mod chain;
 #[cfg(test)]
+mod contracts;
+#[cfg(test)]
 mod depth;
 #[cfg(test)]
 mod filled;

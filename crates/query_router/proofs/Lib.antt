@@ -1,4 +1,3 @@
-pub mod FactsFound
 pub mod Payments
 pub mod Telling
 pub mod Whole

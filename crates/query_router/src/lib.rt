@@ -10,6 +10,5 @@ mod request;
 mod router;
 mod stop;
 
-pub use records::facts;
 pub use router::query;
 pub use stop::QueryStop;

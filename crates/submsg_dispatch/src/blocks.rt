@@ -14,7 +14,7 @@ use chain_msgs::{Tx, TxResult};
 use gas_meter::Schedule;
 use gatekeeper::{Modules, fetches_join};
 use kv_layers::{Base, Layers};
-use query_router::facts;
+use state_records::facts;
 use std::alloc::{AllocError, Global};
 
 /// Does the transactions of a block in order, the first of which has the index 0. The chain's facts are

@@ -23,7 +23,7 @@ use chain_msgs::CosmosMsg;
 use gas_meter::{Meter, Schedule};
 use gatekeeper::Modules;
 use kv_layers::{Base, Layers};
-use query_router::facts;
+use state_records::facts;
 use std::alloc::Global;
 
 /// Messages nest at most so deep.

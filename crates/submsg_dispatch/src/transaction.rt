@@ -21,7 +21,7 @@ use chain_msgs::{Tx, TxResult};
 use gas_meter::{Meter, Schedule};
 use gatekeeper::Modules;
 use kv_layers::{Base, Layers};
-use query_router::facts;
+use state_records::facts;
 use std::alloc::{AllocError, Global};
 
 /// Does a transaction: its messages in order on one meter. A failed one leaves the layers as they were.
