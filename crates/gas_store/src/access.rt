@@ -1,4 +1,4 @@
-ghost use Rattle.std.specs.Prelude.{◌≡◌};
+ghost use Rattle.std.specs.Prelude.{◌≡◌, ◌+◌, ◌≤◌, IsTrue};
 ghost use Rattle.kv_layers.specs.Layers.{depth, Turns};
 ghost use Rattle.kv_layers.specs.Plain.{value_view};
 ghost use Rattle.gas_store.specs.Store.{bytes_in, read, write, erase};
@@ -38,6 +38,8 @@ impl Scoped {
         ensures unchanged { Turns B.stands_for layers.old layers.new (λ maps. maps) }
         ensures scope { IsSameScope self.old self.new }
         ensures depth { depth layers.new ≡ depth layers.old }
+        ensures spends { meter.new.left ≤ meter.old.left }
+        ensures used { meter.new.left + meter.new.used ≡ meter.old.left + meter.old.used }
     {
         let place = joined(alloc, &self.prefix, key)?;
         let value = layers.get(alloc, &place)?;
@@ -59,8 +61,11 @@ impl Scoped {
     ) -> Result<(), StoreStop>
         ensures step { Answers unit_view result (Does B.stands_for layers.old layers.new self.old self.new
             meter.old meter.new (write self.old.read_only costs.now key.now value.now)) }
+        ensures unchanged { IsTrue self.old.read_only → Turns B.stands_for layers.old layers.new (λ maps. maps) }
         ensures scope { IsSameScope self.old self.new }
         ensures depth { depth layers.new ≡ depth layers.old }
+        ensures spends { meter.new.left ≤ meter.old.left }
+        ensures used { meter.new.left + meter.new.used ≡ meter.old.left + meter.old.used }
     {
         if self.read_only {
             return Err(StoreStop::WriteInQuery);
@@ -86,8 +91,11 @@ impl Scoped {
     ) -> Result<(), StoreStop>
         ensures step { Answers unit_view result (Does B.stands_for layers.old layers.new self.old self.new
             meter.old meter.new (erase self.old.read_only costs.now key.now)) }
+        ensures unchanged { IsTrue self.old.read_only → Turns B.stands_for layers.old layers.new (λ maps. maps) }
         ensures scope { IsSameScope self.old self.new }
         ensures depth { depth layers.new ≡ depth layers.old }
+        ensures spends { meter.new.left ≤ meter.old.left }
+        ensures used { meter.new.left + meter.new.used ≡ meter.old.left + meter.old.used }
     {
         if self.read_only {
             return Err(StoreStop::WriteInQuery);

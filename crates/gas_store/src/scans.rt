@@ -110,6 +110,8 @@ impl Scoped {
         ensures step { Answers number_view result (DoesAlone self.old self.new meter.old meter.new
             (start costs.now (option_copied lo.entry) (option_copied hi.entry) order)) }
         ensures scope { IsSameScope self.old self.new }
+        ensures spends { meter.new.left ≤ meter.old.left }
+        ensures used { meter.new.left + meter.new.used ≡ meter.old.left + meter.old.used }
     {
         let (below, above) = (len_of(lo), len_of(hi));
         if self.is_full(below, above) {
@@ -162,6 +164,8 @@ impl Scoped {
         ensures unchanged { Turns B.stands_for layers.old layers.new (λ maps. maps) }
         ensures scope { IsSameScope self.old self.new }
         ensures depth { depth layers.new ≡ depth layers.old }
+        ensures spends { meter.new.left ≤ meter.old.left }
+        ensures used { meter.new.left + meter.new.used ≡ meter.old.left + meter.old.used }
     {
         let Some(index) = self.index_of(scan) else {
             return Err(StoreStop::NoSuchScan);

@@ -1,0 +1,5 @@
+pub mod Advancing
+pub mod Givings
+pub mod Machines
+pub mod Turns
+pub mod Works

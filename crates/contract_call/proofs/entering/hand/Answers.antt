@@ -1,0 +1,12 @@
+use Rattle.host_imports.specs.Imports.{answers_with}
+use Rattle.contract_call.proofs.Works.{moves_then, moves_stop}
+use Rattle.contract_call.proofs.Machines.{answered_so}
+use Rattle.contract_call.proofs.entering.hand.Goals as goal
+
+pub returns-in-Ok-clause-moves : goal.returns-in-Ok-clause-moves
+unfolding answers_with
+returns-in-Ok-clause-moves c = moves_then _ c.in-Ok.ensures.moves (answered_so _ c.resume.ensures.stands c.resume.ensures.module)
+
+pub returns-in-Err-clause-moves : goal.returns-in-Err-clause-moves
+unfolding answers_with
+returns-in-Err-clause-moves c = moves_stop _ c.in-Err.stop c.in-Err.ensures.moves

@@ -1,0 +1,10 @@
+use Rattle.gas_store.specs.Store.{erase}
+use Rattle.gas_store.specs.Views.{is_read_only}
+use Rattle.host_imports.proofs.Storing.{erase_ignores, refused_does, stored_does}
+use Rattle.host_imports.proofs.steps.erase.Goals as goal
+
+pub returns-in-Ok-clause-does : goal.returns-in-Ok-clause-does
+returns-in-Ok-clause-does g c = λ machine. stored_does (erase (is_read_only c.args.store.now) c.args.costs.now c.args.key.now) tt (erase_ignores (is_read_only c.args.store.now) c.args.costs.now c.args.key.now) c.in-Ok.ensures.scope.addr c.in-Ok.ensures.step
+
+pub returns-in-Err-clause-does : goal.returns-in-Err-clause-does
+returns-in-Err-clause-does g c = λ machine. rw c.refusal.ensures (refused_does c.args.meter.now _ (erase (is_read_only c.args.store.now) c.args.costs.now c.args.key.now) c.in-Err.stop (erase_ignores (is_read_only c.args.store.now) c.args.costs.now c.args.key.now) c.in-Err.ensures.scope.addr c.in-Err.ensures.step)

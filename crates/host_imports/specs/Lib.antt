@@ -1,0 +1,12 @@
+pub mod Faults
+pub mod Work
+pub mod Requests
+pub mod Allocation
+pub mod Addresses
+pub mod Numbers
+pub mod Imports
+pub mod Reaching
+pub mod Results
+pub mod Refusals
+pub mod Refused
+pub mod Parts
