@@ -1,0 +1,3 @@
+pub mod NamedCodes
+pub mod Looks
+pub mod Answered
