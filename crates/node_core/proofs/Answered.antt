@@ -1,14 +1,14 @@
 -- What the answers to events are, and what they say of the state.
-use Rattle.std.proofs.Common.{◌≡◌, ℕ, zero, suc, ◌+◌, ◌-◌, ◌<◌, ◌≤◌, ◌==◌, nat_lt, Bool, true, false, cond, ◌⊎◌, List, [], ◌∷◌, length, get_or, set, replicate, Option, Some, None, is_some, unwrap_or, refl, sym, ap, subst, ◌∙◌, inl, inr, arith}
+use Rattle.std.proofs.Common.{◌≡◌, ℕ, zero, suc, ◌+◌, ◌<◌, ◌≤◌, ◌==◌, nat_lt, Bool, true, false, cond, ◌⊎◌, List, [], ◌∷◌, length, get_or, set, replicate, is_some, unwrap_or, refl, sym, ap, subst, ◌∙◌, inl, inr, arith}
 use Rattle.std.proofs.lemmas.Bool.{eqb-true, eqb-false, ltb-true, ltb-false}
 use Rattle.std.proofs.lemmas.List.{get_or-set_same, get_or-set_other}
 use Rattle.gatekeeper.specs.Cache.{looked}
 use Rattle.node_core.specs.declared.answer.CoreAnswer.{CoreAnswer}
-use Rattle.node_core.specs.declared.answer.CoreAnswer.TheVariants.{Nothing, Entered, NotYet, Pruned, Found, Missing, Refused}
+use Rattle.node_core.specs.declared.answer.CoreAnswer.TheVariants.{Nothing, Entered, NotYet, Pruned, Found, Refused}
 use Rattle.node_core.specs.Plain.{Event, publish, enter, look, stow, pins, shelf_answer, tell}
-use Rattle.node_core.specs.Steps.{State, Step, start, named, oldest, window_at, window, lawful, is_reader, is_actor, seen_by, found_or_missing, stepped}
+use Rattle.node_core.specs.Steps.{State, Step, start, named, oldest, window_at, lawful, is_reader, is_actor, seen_by, found_or_missing, stepped}
 use Rattle.node_core.specs.Events.{state_after}
-use Rattle.node_core.specs.Laws.{Asks, FindsAsked, NeverFalls, IsWithin, reached}
+use Rattle.node_core.specs.Laws.{FindsAsked, NeverFalls, IsWithin, reached}
 
 -- an answer that isn't a refusal is that of the step
 answered_by : (ok : Bool) (s : State) (step : Step) (x : CoreAnswer) → (lawful ok s step).answer ≡ x → (step.answer ≡ x) ⊎ (Refused ≡ x)

@@ -1,5 +1,5 @@
 -- What a look and a stow are where codes are named by numbers.
-use Rattle.std.proofs.Common.{◌≡◌, ℕ, ◌==◌, Bool, true, false, not, cond, List, ◌∷◌, map, take, is_some, Some, None, refl, sym, ap, ◌∙◌}
+use Rattle.std.proofs.Common.{◌≡◌, ℕ, ◌==◌, Bool, true, false, not, cond, List, ◌∷◌, map, take, Some, None, refl, sym, ap, ◌∙◌}
 use Rattle.std.proofs.lemmas.List.{take-map}
 use Rattle.std.specs.List.{filter, list_any}
 use Rattle.gatekeeper.specs.declared.served.Served.TheVariants.{Pinned, Recent}
@@ -7,7 +7,7 @@ use Rattle.gatekeeper.specs.Cache.{Look, is_among, to_front}
 use Rattle.node_core.specs.declared.answer.CoreAnswer.{CoreAnswer}
 use Rattle.node_core.specs.declared.answer.CoreAnswer.TheVariants.{Nothing, Found, Missing, Refused}
 use Rattle.node_core.specs.Plain.{look, stow}
-use Rattle.node_core.specs.Steps.{State, Step, named, is_actor, lawful, refused, after_look, stepped}
+use Rattle.node_core.specs.Steps.{State, Step, named, is_actor, lawful, after_look, stepped}
 use Rattle.node_core.proofs.NamedCodes.{among_named, front_named}
 
 abbrev has : ℕ → List ℕ → Bool

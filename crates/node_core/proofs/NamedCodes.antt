@@ -1,7 +1,6 @@
 -- Codes that are named by numbers, as the cache sees them.
-use Rattle.std.proofs.Common.{◌≡◌, ℕ, Bool, true, false, ◌&&◌, ◌||◌, not, cond, List, [], ◌∷◌, map, nat_eq, ◌==◌, refl, ap, ◌∙◌}
+use Rattle.std.proofs.Common.{◌≡◌, ℕ, Bool, true, false, ◌&&◌, ◌||◌, not, cond, List, [], ◌∷◌, map, ◌==◌, refl, ap, ◌∙◌}
 use Rattle.std.specs.List.{filter, list_any}
-use Rattle.std.specs.Str.{bytes_eq}
 use Rattle.gatekeeper.specs.Cache.{is_among, all_but, to_front}
 use Rattle.node_core.specs.Steps.{named}
 

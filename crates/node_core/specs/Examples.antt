@@ -1,6 +1,5 @@
 -- A short run of a core that keeps two heights and one recent module, and has one reader.
 use Rattle.std.specs.Prelude.{◌≡◌, List, [], ◌∷◌, Some, refl}
-use Rattle.node_core.specs.declared.answer.CoreAnswer.{CoreAnswer}
 use Rattle.node_core.specs.declared.answer.CoreAnswer.TheVariants.{Nothing, Pruned, Found, Missing, Refused}
 use Rattle.node_core.specs.Plain.{Event, publish, enter, look, stow, tell}
 use Rattle.node_core.specs.Steps.{start}

@@ -1,5 +1,5 @@
 -- What holds of the answers, whatever events came before.
-use Rattle.std.specs.Prelude.{ℕ, ◌≡◌, ◌≤◌, ◌<◌, ◌⊎◌, Bool, true, List, Option, slice_index}
+use Rattle.std.specs.Prelude.{ℕ, ◌≡◌, ◌≤◌, ◌⊎◌, true, List, Option, slice_index}
 use Rattle.node_core.specs.declared.answer.CoreAnswer.TheVariants.{Entered, Found}
 use Rattle.node_core.specs.Plain.{Event, enter, look, shelf_answer}
 use Rattle.node_core.specs.Steps.{State, start, oldest, stepped}

@@ -1,5 +1,5 @@
 -- The node as one list of atomic steps: heights that are published and entered, and one cache of modules.
-use Rattle.std.specs.Prelude.{ℕ, ◌+◌, ◌-◌, ◌==◌, nat_lt, nat_le, if◌then◌else◌, Bool, true, false, List, [], ◌∷◌, map, length, replicate, slice_set, Option, Some, None, unwrap_or, is_some}
+use Rattle.std.specs.Prelude.{ℕ, ◌+◌, ◌-◌, ◌==◌, nat_lt, nat_le, if◌then◌else◌, Bool, List, [], ◌∷◌, map, length, replicate, slice_set, Option, unwrap_or, is_some}
 use Rattle.gatekeeper.specs.Cache.{Cache, Look, looked, stowed}
 use Rattle.node_core.specs.declared.answer.CoreAnswer.{CoreAnswer}
 use Rattle.node_core.specs.declared.answer.CoreAnswer.TheVariants.{Nothing, Entered, NotYet, Pruned, Found, Missing, Refused}

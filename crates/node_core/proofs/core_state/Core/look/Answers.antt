@@ -1,4 +1,4 @@
-use Rattle.std.proofs.Common.{◌≡◌, ◌==◌, ◌∷◌, Bool, true, false, not, sym, ap, ◌∙◌}
+use Rattle.std.proofs.Common.{◌≡◌, ◌==◌, ◌∷◌, true, false, not, sym, ◌∙◌}
 use Rattle.std.specs.List.{filter, list_any}
 use Rattle.node_core.specs.Steps.{is_actor}
 use Rattle.node_core.specs.View.{core_view}
