@@ -1,5 +1,5 @@
 -- How many calls of a shelf failed; the counts stand still at 2^64 - 1.
-use Rattle.std.specs.Prelude.{ℕ, List}
+use Rattle.std.specs.Prelude.{ℕ}
 use Rattle.outside_io.specs.Memory.{Calls}
 use Rattle.module_shelves.specs.declared.mem_shelf.MemShelf.{MemShelf}
 use Rattle.module_shelves.specs.declared.dir_shelf.DirShelf.{DirShelf}
