@@ -106,11 +106,12 @@ fn call_with(machine: &mut Machine, func: u32, values: &[Value]) -> Result<(), S
 }
 
 /// Begins the call of an entry point: charges for it, gives the arguments to the contract, and calls it.
+/// The arguments aren't kept while it runs.
 pub(crate) fn enter(
     alloc: Global,
     machine: &mut Machine,
     entry: Entry,
-    args: &[Vec<u8>],
+    args: Vec<Vec<u8>>,
     pinned: bool,
     meter: &mut Meter,
     costs: &Schedule,
@@ -118,7 +119,7 @@ pub(crate) fn enter(
     requires phase { phase_of machine.old ≡ Phase.Idle }
     requires costs { IsInRange costs.now }
     ensures moves { Moves machine.old machine.new meter.old.left meter.new.left
-        (begins costs.now (call_of (plain_of machine.old) entry (map bytes_view args.now) pinned)) unit_view result }
+        (begins costs.now (call_of (plain_of machine.old) entry (map bytes_view args.items) pinned)) unit_view result }
     ensures phase { OnOk result (phase_of machine.new ≡ Phase.Ready) }
     ensures module { module_of machine.new ≡ module_of machine.old }
     ensures spends { meter.new.left ≤ meter.old.left }
@@ -132,7 +133,7 @@ pub(crate) fn enter(
         Ok(func) => func,
         Err(stop) => return Err(stop),
     };
-    let values = match give_all(alloc, machine, args, meter, costs) {
+    let values = match give_all(alloc, machine, &args, meter, costs) {
         Ok(values) => values,
         Err(stop) => return Err(stop),
     };
@@ -143,21 +144,21 @@ pub(crate) fn enter(
 pub(crate) fn hand(
     alloc: Global,
     machine: &mut Machine,
-    bytes: &[u8],
+    bytes: Vec<u8>,
     meter: &mut Meter,
     costs: &Schedule,
 ) -> Result<(), Stop>
     requires phase { phase_of machine.old ≡ Phase.Asked }
     requires costs { IsInRange costs.now }
     ensures moves { Moves machine.old machine.new meter.old.left meter.new.left
-        (answers_with costs.now bytes.now) answered_view result }
+        (answers_with costs.now bytes.items) answered_view result }
     ensures phase { OnOk result (phase_of machine.new ≡ Phase.Ready) }
     ensures begun { OnOk result (¬ HasUnbegunCall machine.new) }
     ensures module { module_of machine.new ≡ module_of machine.old }
     ensures spends { meter.new.left ≤ meter.old.left }
     ensures used { meter.new.left + meter.new.used ≡ meter.old.left + meter.old.used }
 {
-    match give_bytes(alloc, machine, bytes, meter, costs) {
+    match give_bytes(alloc, machine, &bytes, meter, costs) {
         Ok(pointer) => {
             machine.resume(Some(Value::I32(pointer)));
             Ok(())

@@ -28,7 +28,7 @@ use wasm_machine::{Machine, Phase};
 fn open<B: Base>(
     alloc: Global,
     entry: Entry,
-    args: &[Vec<u8>],
+    args: Vec<Vec<u8>>,
     pinned: bool,
     machine: &mut Machine,
     store: &mut Scoped,
@@ -43,7 +43,7 @@ fn open<B: Base>(
     ensures does { Does B.stands_for layers.old layers.new store.old store.new
         machine.old machine.new meter.old.left meter.new.left
         (opens (setting costs.now (is_read_only store.old) prefix.now)
-        (call_of (plain_of machine.old) entry (map bytes_view args.now) pinned)) pause_view result }
+        (call_of (plain_of machine.old) entry (map bytes_view args.items) pinned)) pause_view result }
     ensures paused { IfOk result (λ pause. IsPaused (Some pause) machine.new) }
     ensures scope { IsSameScope store.old store.new }
     ensures layers { depth layers.new ≡ depth layers.old }
@@ -61,7 +61,7 @@ fn open<B: Base>(
 /// Gives the contract the answer to its query, and runs it.
 fn resume<B: Base>(
     alloc: Global,
-    bytes: &[u8],
+    bytes: Vec<u8>,
     machine: &mut Machine,
     store: &mut Scoped,
     layers: &mut Layers<B>,
@@ -74,7 +74,7 @@ fn resume<B: Base>(
     requires prefix { IsPrefix prefix.now }
     ensures does { Does B.stands_for layers.old layers.new store.old store.new
         machine.old machine.new meter.old.left meter.new.left
-        (hands (setting costs.now (is_read_only store.old) prefix.now) bytes.now) pause_view result }
+        (hands (setting costs.now (is_read_only store.old) prefix.now) bytes.items) pause_view result }
     ensures paused { IfOk result (λ pause. IsPaused (Some pause) machine.new) }
     ensures falls { IfOk result (λ pause. IfNotOver (Some pause) (meter.new.left < meter.old.left)) }
     ensures scope { IsSameScope store.old store.new }
@@ -123,10 +123,10 @@ pub(crate) fn go_on<B: Base>(
             args,
             pinned,
         } => open(
-            alloc, entry, &args, pinned, machine, store, layers, prefix, meter, costs,
+            alloc, entry, args, pinned, machine, store, layers, prefix, meter, costs,
         ),
         Stage::Answered(bytes) => resume(
-            alloc, &bytes, machine, store, layers, prefix, meter, costs,
+            alloc, bytes, machine, store, layers, prefix, meter, costs,
         ),
         Stage::Waits | Stage::Over => unreachable!(),
     }

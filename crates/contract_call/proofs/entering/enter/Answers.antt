@@ -15,10 +15,10 @@ pub returns-in-Err-give_all-clause-moves : goal.returns-in-Err-give_all-clause-m
 unfolding begins
 returns-in-Err-give_all-clause-moves c =
     moves_then _ (c.in-Ok.ensures.moves c.args.machine.now)
-    (moves_then _ (c.in-Ok-entry_point.ensures c.charge_entry.new.meter.left) (moves_stop _ c.in-Err-give_all.stop c.in-Err-give_all.ensures.moves))
+    (moves_then _ (c.in-Ok-entry_point.ensures c.charge_entry.new.meter.left) (moves_stop _ c.in-Err-give_all.stop (rw c.deref.ensures.value at c.in-Err-give_all.ensures.moves)))
 
 pub returns-clause-moves : goal.returns-clause-moves
 unfolding begins
 returns-clause-moves c =
     moves_then _ (c.in-Ok.ensures.moves c.args.machine.now)
-    (moves_then _ (c.in-Ok-entry_point.ensures c.charge_entry.new.meter.left) (moves_then _ c.in-Ok-give_all.ensures.moves (rw c.deref.ensures.value at (c.call_with.ensures.moves c.give_all.new.meter.left))))
+    (moves_then _ (c.in-Ok-entry_point.ensures c.charge_entry.new.meter.left) (moves_then _ (rw c.deref.ensures.value at c.in-Ok-give_all.ensures.moves) (rw c.deref-2.ensures.value at (c.call_with.ensures.moves c.give_all.new.meter.left))))

@@ -5,8 +5,8 @@ use Rattle.contract_call.proofs.entering.hand.Goals as goal
 
 pub returns-in-Ok-clause-moves : goal.returns-in-Ok-clause-moves
 unfolding answers_with
-returns-in-Ok-clause-moves c = moves_then _ c.in-Ok.ensures.moves (answered_so _ c.resume.ensures.stands c.resume.ensures.module)
+returns-in-Ok-clause-moves c = moves_then _ (rw c.deref.ensures.value at c.in-Ok.ensures.moves) (answered_so _ c.resume.ensures.stands c.resume.ensures.module)
 
-pub returns-in-Err-clause-moves : goal.returns-in-Err-clause-moves
+pub returns-clause-moves : goal.returns-clause-moves
 unfolding answers_with
-returns-in-Err-clause-moves c = moves_stop _ c.in-Err.stop c.in-Err.ensures.moves
+returns-clause-moves c = moves_stop _ c.in-Err.stop (rw c.deref.ensures.value at c.in-Err.ensures.moves)
