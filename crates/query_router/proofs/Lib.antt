@@ -1,3 +1,11 @@
 pub mod Payments
 pub mod Telling
 pub mod Whole
+pub mod Values
+pub mod Gathering
+pub mod Keeping
+pub mod Going
+pub mod Opening
+pub mod Beginning
+pub mod Deep
+pub mod Nesting

@@ -1,7 +1,10 @@
 pub mod Requests
 pub mod Queries
+pub mod Calls
 pub mod Lawful
 pub mod Answering
 pub mod Views
 pub mod Parts
 pub mod Examples
+pub mod Finding
+pub mod Calling

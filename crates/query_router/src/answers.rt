@@ -35,7 +35,7 @@ pub(crate) fn unsupported(alloc: Global, kind: &str) -> Result<Answer, AllocErro
 }
 
 /// The text of a value, as an answer.
-fn written(alloc: Global, value: &Value) -> Result<Answer, AllocError>
+pub(crate) fn written(alloc: Global, value: &Value) -> Result<Answer, AllocError>
     ensures { IfOk result (λ answer. has_float (view value.now) ≡ false
         → answer_view answer ≡ answered (compact_text (view value.now))) }
 {

@@ -23,6 +23,7 @@ pub(crate) fn charge(meter: &mut Meter, cost: u128) -> Result<(), QueryStop>
     ensures err { IfErr result (λ stop. (stop ≡ QueryStop.OutOfGas) × (meter.old.left < cost)
         × (meter.new ≡ exhausted meter.old)) }
     ensures gas { meter.new.left + meter.new.used ≡ meter.old.left + meter.old.used }
+    ensures spends { meter.new.left ≤ meter.old.left }
 {
     match meter.charge_wide(cost) {
         Ok(()) => Ok(()),

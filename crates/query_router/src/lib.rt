@@ -3,7 +3,10 @@
 
 mod answers;
 mod bank;
+mod calls;
 mod charge;
+mod codes;
+mod contracts;
 mod forms;
 mod records;
 mod request;

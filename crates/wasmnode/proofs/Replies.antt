@@ -12,7 +12,8 @@ use Rattle.kv_layers.specs.Layers.{Stands, HasCurrent}
 use Rattle.kv_layers.specs.Maps.{new_maps}
 use Rattle.state_runs.specs.Runs.{Run, map_of}
 use Rattle.query_router.specs.Lawful.{HasLawful}
-use Rattle.query_router.specs.Queries.{Queried, query}
+use Rattle.query_router.specs.Calls.{query}
+use Rattle.query_router.specs.Queries.{Queried}
 use Rattle.line_protocol.specs.Parts.{Question}
 use Rattle.line_protocol.specs.Texts.{QueryResult, not_yet, pruned, QueryReply}
 use Rattle.wasmnode.specs.Asking.{IsAnswered, IsReplied}

@@ -5,7 +5,7 @@ use denote.Ref.{Bor}
 use Rattle.chain_records.specs.State.{State}
 use Rattle.gas_meter.specs.Costs.{standard_schedule}
 use Rattle.state_runs.specs.Runs.{Run}
-use Rattle.query_router.specs.Queries.{query}
+use Rattle.query_router.specs.Calls.{query}
 use Rattle.line_protocol.specs.Parts.{Question}
 use Rattle.line_protocol.specs.Plain.{query_result_view}
 use Rattle.line_protocol.specs.Texts.{QueryResult}

@@ -3,7 +3,8 @@ use Rattle.std.specs.Prelude.{ℕ, ◌+◌, ◌-◌, List, [], ◌∷◌, take, 
 use Rattle.gas_meter.specs.Costs.{standard_schedule}
 use Rattle.chain_records.specs.State.{State}
 use Rattle.chain_msgs.specs.Plain.{Genesis, Block, Answer}
-use Rattle.query_router.specs.Queries.{Queried, query}
+use Rattle.query_router.specs.Calls.{query}
+use Rattle.query_router.specs.Queries.{Queried}
 use Rattle.submsg_dispatch.specs.Blocks.{BlockRan, block, state_at}
 use Rattle.line_protocol.specs.Forms.{Question}
 use Rattle.line_protocol.specs.Texts.{line_text, genesis_data, block_data, next_digest, first_digest, QueryResult, answer, out_of_gas, not_yet, pruned, QueryReply, query_data}

@@ -1,7 +1,7 @@
 use Rattle.std.proofs.Common.{ℕ, None, sym, subst, refl}
 use Rattle.kv_layers.specs.Maps.{new_maps}
 use Rattle.state_runs.specs.Runs.{map_of}
-use Rattle.query_router.specs.Queries.{query}
+use Rattle.query_router.specs.Calls.{query}
 use Rattle.line_protocol.specs.Plain.{query_result_view}
 use Rattle.wasmnode.specs.Asking.{IsAnswered}
 use Rattle.wasmnode.proofs.Replies.{has_lawful, is_answered}
