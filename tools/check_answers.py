@@ -270,11 +270,37 @@ def a_burn_is_seen_by_queries():
         ({"bank": {"all_balances": {"address": A}}}, 1100, {"ok": {"ok": in_base64({"amount": [left]})}}),
         ({"bank": {"all_balances": {"address": B}}}, 1000, {"ok": {"ok": in_base64({"amount": []})}}),
         ({"bank": {"params": 1}}, 1000, {"error": {"unsupported_request": {"kind": "bank.params"}}}),
-        ({"wasm": {"raw": {"contract_addr": A, "key": ""}}}, 1000, {"error": {"unsupported_request": {"kind": "wasm.raw"}}}),
     ]
     given = lines(GENESIS, block(1, burn), *(asks(request) for request, _, _ in requests), asks({"bank": {}}))
     answers = [replied(1, gas, result) for _, gas, result in requests]
     expect("a burn", ["serial"], given, DONE, lines(OPENED, wanted, *answers, invalid(1, "shape", {"bank": {}})))
+
+
+def queries_find_no_contract_and_no_code():
+    """No message stores a code yet, so there are none on any chain."""
+    requests = [
+        ({"smart": {"contract_addr": A, "msg": ""}}, {"no_such_contract": {"addr": A}}),
+        ({"smart": {"contract_addr": A.upper(), "msg": "e30="}}, {"no_such_contract": {"addr": A}}),
+        ({"raw": {"contract_addr": B, "key": ""}}, {"no_such_contract": {"addr": B}}),
+        ({"contract_info": {"contract_addr": B}}, {"no_such_contract": {"addr": B}}),
+        ({"code_info": {"code_id": 0}}, {"no_such_code": {"code_id": 0}}),
+        ({"code_info": {"code_id": 2**64 - 1}}, {"no_such_code": {"code_id": 2**64 - 1}}),
+        ({"mint": {"code_id": 1}}, {"unsupported_request": {"kind": "wasm.mint"}}),
+    ]
+    bad = [
+        ("shape", {"smart": {"contract_addr": "zz"}}),
+        ("shape", {"raw": {"contract_addr": "zz", "key": "e"}}),
+        ("shape", {"contract_info": {"contract_addr": None}}),
+        ("shape", {"code_info": {"code_id": "1"}}),
+        ("shape", {"code_info": {"code_id": 1}, "raw": 1}),
+        ("address", {"smart": {"contract_addr": "zz", "msg": ""}}),
+        ("address", {"raw": {"contract_addr": "zz", "key": ""}}),
+        ("address", {"contract_info": {"contract_addr": "zz"}}),
+    ]
+    given = lines(GENESIS, *(asks({"wasm": request}) for request, _ in requests), *(asks({"wasm": request}) for _, request in bad))
+    answers = [replied(0, 1000, {"error": error}) for _, error in requests]
+    refused = [invalid(0, kind, {"wasm": request}) for kind, request in bad]
+    expect("contracts and codes that aren't there", ["serial"], given, DONE, lines(OPENED, *answers, *refused))
 
 
 def kept_heights_can_be_asked():
@@ -416,6 +442,7 @@ a_bad_line_ends_the_run()
 an_address_is_read_in_either_case()
 what_fails_in_a_transaction_is_told_with_its_gas()
 a_burn_is_seen_by_queries()
+queries_find_no_contract_and_no_code()
 kept_heights_can_be_asked()
 limits_are_kept()
 a_failed_read_ends_the_run_after_the_answers_before_it()

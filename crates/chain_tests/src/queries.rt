@@ -37,7 +37,18 @@ fn errors_of_queries_come_in_their_order(rt: HostRuntime) -> Result<(), Fail> {
                 1_000_000,
                 r#"{"wasm":{"smart":{"contract_addr":"zz","msg":""}}}"#,
             ),
-            r#"1000 {"error":{"unsupported_request":{"kind":"wasm.smart"}}}"#,
+            r#"1000 {"error":{"invalid_request":{"error":"address","request":"eyJ3YXNtIjp7InNtYXJ0Ijp7ImNvbnRyYWN0X2FkZHIiOiJ6eiIsIm1zZyI6IiJ9fX0="}}}"#,
+        ),
+        (
+            Act::Query(
+                1_000_000,
+                r#"{"wasm":{"smart":{"contract_addr":"%U%","msg":""}}}"#,
+            ),
+            r#"1000 {"error":{"no_such_contract":{"addr":"%A%"}}}"#,
+        ),
+        (
+            Act::Query(1_000_000, r#"{"wasm":{"code_info":{"code_id":1}}}"#),
+            r#"1000 {"error":{"no_such_code":{"code_id":1}}}"#,
         ),
         (
             Act::Query(
