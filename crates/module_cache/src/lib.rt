@@ -1,6 +1,7 @@
 //! Modules of codes that were used lately, and of codes that are pinned.
 #![tactic(auto)]
 
+mod by_length;
 mod counts;
 mod files;
 mod owned;

@@ -6,10 +6,12 @@ ghost use Rattle.gatekeeper.specs.CodeBytes.{code_bytes};
 ghost use Rattle.gatekeeper.specs.Cache.{is_among, looked, stowed};
 ghost use Rattle.module_cache.specs.Right.{IsModuleOf, AreRight, AreRight-prop, codes_of, vec_bytes};
 
+use crate::by_length::ByLength;
 use crate::pin_table::PinTable;
 use gatekeeper::{Served, ValidCode};
 use lru::LruCache;
 use std::alloc::{AllocError, Global};
+use std::hash::BuildHasherDefault;
 use std::num::NonZeroUsize;
 use std::sync::Arc;
 use wasm_types::Module;
@@ -18,8 +20,9 @@ use wasm_types::Module;
 #[derive(Drop)]
 pub struct CacheState {
     pinned: PinTable,
-    // Under copies of whole codes, which are made where a module is stowed. A look copies nothing.
-    recent: LruCache<Vec<u8>, Arc<Module>>,
+    // Under copies of whole codes, which are made where a module is stowed. A look copies nothing, and compares the code
+    // with those kept that are as long.
+    recent: LruCache<Vec<u8>, Arc<Module>, BuildHasherDefault<ByLength>>,
     pub ghost recent_right: { AreRight vec_bytes recent.entries } by { AreRight-prop vec_bytes recent.entries },
 }
 
@@ -36,7 +39,7 @@ impl CacheState {
         let size = NonZeroUsize::new(recent as usize).unwrap();
         Ok(CacheState {
             pinned: PinTable::new(alloc),
-            recent: LruCache::new(alloc, size)?,
+            recent: LruCache::with_hasher(alloc, size, BuildHasherDefault::new())?,
         })
     }
 
