@@ -86,3 +86,25 @@ fn a_block_has_the_next_height_and_a_result_for_each_transaction(
     assert_eq!(rt; write_json(alloc, &results)?.as_slice(), want.as_bytes());
     Ok(())
 }
+
+#[test]
+fn a_block_says_which_codes_are_pinned_after_it(rt: HostRuntime) -> Result<(), Fail> {
+    let txs: Txs = &[
+        (
+            "%A%",
+            60000,
+            r#"[{"store_code":{"code":"AGFzbQEAAAABFARgAABgAX8Bf2ABfwBgA39/fwF/AwUEAAECAwUDAQABBz0EE2ludGVyZmFjZV92ZXJzaW9uXzgAAAhhbGxvY2F0ZQABCmRlYWxsb2NhdGUAAgtpbnN0YW50aWF0ZQADChEEAgALBAAgAAsCAAsEACAACw=="}},{"store_code":{"code":"AGFzbQEAAAABFARgAABgAX8Bf2ABfwBgA39/fwF/AwUEAAECAwUDAQABBz0EE2ludGVyZmFjZV92ZXJzaW9uXzgAAAhhbGxvY2F0ZQABCmRlYWxsb2NhdGUAAgtpbnN0YW50aWF0ZQADChEEAgALBAAgAAsCAAsEACAACw=="}},{"pin_code":{"ids":[2,1]}}]"#,
+        ),
+        // what a failed transaction unpins stays pinned
+        (
+            "%A%",
+            5000,
+            r#"[{"unpin_code":{"ids":[1]}},{"unpin_code":{"ids":[3]}}]"#,
+        ),
+        ("%A%", 5000, r#"[{"unpin_code":{"ids":[2]}}]"#),
+    ];
+    let done = delivered(&rt, rt.alloc(), txs)?;
+    let pins: &[u64] = &[1];
+    assert_eq!(rt; done.pins.as_slice(), pins);
+    Ok(())
+}

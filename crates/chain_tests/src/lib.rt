@@ -14,6 +14,8 @@ mod depth;
 #[cfg(test)]
 mod filled;
 #[cfg(test)]
+mod messages;
+#[cfg(test)]
 mod opening;
 #[cfg(test)]
 mod pins;

@@ -163,8 +163,8 @@ fn a_message_that_is_not_of_the_bank_is_unsupported(rt: HostRuntime) -> Result<(
             r#"{"code":20,"codespace":"wasm","data":[],"detail":"Unsupported staking","events":[],"gas":1000}"#,
         ),
         (
-            Act::Tx("%A%", 5000, r#"[{"pin_code":{"ids":[1]}}]"#),
-            r#"{"code":20,"codespace":"wasm","data":[],"detail":"Unsupported pin_code","events":[],"gas":1000}"#,
+            Act::Tx("%A%", 5000, r#"[{"sudo":{"contract":"%A%","msg":"AA=="}}]"#),
+            r#"{"code":20,"codespace":"wasm","data":[],"detail":"Unsupported sudo","events":[],"gas":1000}"#,
         ),
     ];
     expect_all(&rt, rt.alloc(), acts)

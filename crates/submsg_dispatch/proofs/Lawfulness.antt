@@ -1,14 +1,20 @@
 -- Lawful states that layers stand for, before and after a call.
-use Rattle.std.proofs.Common.{◌≡◌, ℕ, List, Option, Result, Ok, Err, refl, sym, ap, ◌∙◌, subst}
+use Rattle.std.proofs.Common.{◌≡◌, ℕ, List, Option, None, Some, Result, Ok, Err, refl, sym, ap, ◌∙◌, subst}
 use Rattle.std.specs.Ordering.{nat_cmp}
 use Rattle.std.specs.Cmp.Lexicographic.{slice_cmp}
-use Rattle.std.specs.FinMap.{FinMap}
+use Rattle.std.specs.FinMap.{FinMap, get}
 use Rattle.coin_amounts.specs.Plain.{Coin}
 use Rattle.kv_layers.specs.declared.layers.Layers.{Layers}
 use Rattle.kv_layers.specs.Layers.{Stands, HasCurrent}
 use Rattle.kv_layers.specs.Maps.{Maps, changed}
-use Rattle.chain_records.specs.Records.{PlainFacts}
-use Rattle.chain_records.specs.State.{Bytes, State, Spells, addressed_cmp}
+use Rattle.chain_records.specs.Records.{PlainContract, PlainFacts}
+use Rattle.chain_records.specs.Changes.{with_code}
+use Rattle.code_registry.specs.Codes.{Pins}
+use Rattle.code_registry.specs.Lawful.{HasLawfulCodes}
+use Rattle.contract_admin.specs.Administration.{changed_in, with_admin}
+use Rattle.contract_admin.specs.Lawful.{HasLawfulContracts}
+use Rattle.contract_admin.specs.Laws.{StayLawfulWithCode}
+use Rattle.chain_records.specs.State.{Bytes, Code, State, Spells, addressed_cmp}
 use Rattle.chain_records.specs.Spelled.{OfEach}
 use Rattle.bank_ledger.specs.Lawful.{HasLawfulAmounts}
 use Rattle.bank_ledger.specs.Effects.{IsSent, IsBurned}
@@ -46,6 +52,59 @@ pub lawful_burned : (s t : State) (from : List ℕ) (coins : List Coin) → IsLa
 lawful_burned s t from coins lawful is =
     let next = burned s from coins in
     subst IsLawful (sym is.state) (recounted s next.balances next.supplies lawful (subst HasLawfulAmounts is.state is.lawful))
+
+-- ---- other codes, pins and contracts
+
+-- a code more
+with_code_lawful : (s : State) (code : Code) → StayLawfulWithCode → IsLawful s → HasLawfulCodes (with_code s code) → IsLawful (with_code s code)
+with_code_lawful s code law l found = record {
+  prefix = l.prefix;
+  authority = l.authority;
+  amounts = record { sums = l.amounts.sums; bounded = l.amounts.bounded; accounts = l.amounts.accounts; supplies = l.amounts.supplies };
+  codes = found;
+  contracts = law s code l.contracts;
+}
+
+pub lawful_coded : (s t : State) (code : Code) → StayLawfulWithCode → IsLawful s → t ≡ with_code s code → HasLawfulCodes t → IsLawful t
+lawful_coded s t code law lawful is found = subst IsLawful (sym is) (with_code_lawful s code law lawful (subst HasLawfulCodes is found))
+
+with_pins_lawful : (s : State) (pins : Pins) → IsLawful s → HasLawfulCodes (record s { pins = pins }) → IsLawful (record s { pins = pins })
+with_pins_lawful s pins l found = record {
+  prefix = l.prefix;
+  authority = l.authority;
+  amounts = record { sums = l.amounts.sums; bounded = l.amounts.bounded; accounts = l.amounts.accounts; supplies = l.amounts.supplies };
+  codes = found;
+  contracts = record {
+    contracts = λ addr c at.
+        let is = l.contracts.contracts addr c at in
+        (is.0, record { code = is.1.code; creator = is.1.creator; admin = is.1.admin });
+    storage = l.contracts.storage;
+  };
+}
+
+pub lawful_pinned : (s t : State) (pins : Pins) → IsLawful s → t ≡ record s { pins = pins } → HasLawfulCodes t → IsLawful t
+lawful_pinned s t pins lawful is found = subst IsLawful (sym is) (with_pins_lawful s pins lawful (subst HasLawfulCodes is found))
+
+-- another record of a contract, where there was one
+changed_lawful : (s : State) (addr : List ℕ) (change : PlainContract → PlainContract) (o : Option PlainContract) → IsLawful s → HasLawfulContracts (changed_in s addr change o) → IsLawful (changed_in s addr change o)
+changed_lawful s addr change None l found = l
+changed_lawful s addr change (Some c) l found = record {
+  prefix = l.prefix;
+  authority = l.authority;
+  amounts = record { sums = l.amounts.sums; bounded = l.amounts.bounded; accounts = l.amounts.accounts; supplies = l.amounts.supplies };
+  codes = record { first = l.codes.first; few = l.codes.few; numbered = l.codes.numbered; codes = l.codes.codes; pinned = l.codes.pinned; few_pinned = l.codes.few_pinned };
+  contracts = found;
+}
+
+changed_facts : (s : State) (addr : List ℕ) (change : PlainContract → PlainContract) (o : Option PlainContract) → (changed_in s addr change o).facts ≡ s.facts
+changed_facts s addr change None = refl
+changed_facts s addr change (Some c) = refl
+
+pub lawful_admin : (s t : State) (addr : List ℕ) (admin : Option (List ℕ)) → IsLawful s → t ≡ with_admin s addr admin → HasLawfulContracts t → IsLawful t
+lawful_admin s t addr admin lawful is found = subst IsLawful (sym is) (changed_lawful s addr (λ c. record c { admin = admin }) (get s.contracts addr) lawful (subst HasLawfulContracts is found))
+
+pub admin_facts : (s : State) (addr : List ℕ) (admin : Option (List ℕ)) → (with_admin s addr admin).facts ≡ s.facts
+admin_facts s addr admin = changed_facts s addr (λ c. record c { admin = admin }) (get s.contracts addr)
 
 -- ---- what is known of some state
 

@@ -1,6 +1,8 @@
 pub mod Leading
 pub mod Lawfulness
 pub mod Banking
+pub mod Changing
+pub mod Listing
 pub mod Refusing
 pub mod Loops
 pub mod Closing

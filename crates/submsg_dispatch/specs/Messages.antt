@@ -1,19 +1,21 @@
 -- What a message does, by its kind: its checks in their order, what it costs, and what it changes.
-use Rattle.std.specs.Prelude.{ℕ, ◌==◌, List, [], ◌∷◌, length, codes, Option, None, Some, if◌then◌else◌}
+use Rattle.std.specs.Prelude.{ℕ, ◌==◌, List, [], ◌∷◌, length, map, codes, Option, None, Some, option_map, if◌then◌else◌}
 use Rattle.std.specs.Result.{result_ok}
 use Rattle.coin_amounts.specs.Plain.{Coin, RawCoin}
 use Rattle.coin_amounts.specs.Coins.{coins_of}
 use Rattle.gas_meter.specs.declared.schedule.Schedule.{Schedule}
-use Rattle.gas_meter.specs.Costs.{coins_cost}
+use Rattle.gas_meter.specs.Costs.{coins_cost, store_code_cost}
 use Rattle.chain_addr.specs.Address.{address_of}
 use Rattle.chain_records.specs.State.{State}
 use Rattle.bank_ledger.specs.Balances.{Shortfall, shortfall}
 use Rattle.bank_ledger.specs.Accounts.{balance, sent, burned}
+use Rattle.code_registry.specs.Codes.{stored, pinned, unpinned, store_refusal, pin_refusal, unpin_refusal}
+use Rattle.contract_admin.specs.Administration.{change_refusal, with_admin}
 use Rattle.chain_msgs.specs.Plain.{Event}
 use Rattle.chain_msgs.specs.Messages.{CosmosMsg, bank_send, bank_burn, execute, instantiate, migrate, update_admin, clear_admin, other}
-use Rattle.submsg_dispatch.specs.Parts.{Part, done, fails, charge, or_fails, reads, ◌>>=◌}
-use Rattle.submsg_dispatch.specs.Failures.{address_bad, coins_bad, not_enough, too_deep, unsupported}
-use Rattle.submsg_dispatch.specs.Events.{transfer, burn}
+use Rattle.submsg_dispatch.specs.Parts.{Part, done, fails, charge, or_fails, stops_if, becomes, reads, ◌>>=◌}
+use Rattle.submsg_dispatch.specs.Failures.{address_bad, coins_bad, not_enough, too_deep, unsupported, code_failure, contract_failure}
+use Rattle.submsg_dispatch.specs.Events.{transfer, burn, code_stored, of_code}
 
 -- what a message that was done gives: its events, its data, and the data that a reply to it gets
 pub record Outcome : Type 0 where
@@ -76,6 +78,74 @@ burn_coins costs sender raws = do
   _ ← burns sender coins
   reads (λ s. done (only_events (burn s.facts.prefix sender coins ∷ [])))
 
+-- ---- contracts
+
+-- the contract with this address is there, and the sender is its admin
+abbrev pub may_change : List ℕ → List ℕ → Part (Unit {0})
+may_change sender addr = reads (λ s. stops_if (option_map (contract_failure s.facts.prefix addr) (change_refusal s sender addr)))
+
+unfoldable pub change_admin : List ℕ → List ℕ → List ℕ → Part Outcome
+change_admin sender contract admin = do
+  addr ← address_in contract
+  _ ← may_change sender addr
+  next ← address_in admin
+  _ ← becomes (λ s. with_admin s addr (Some next))
+  done (only_events [])
+
+unfoldable pub drop_admin : List ℕ → List ℕ → Part Outcome
+drop_admin sender contract = do
+  addr ← address_in contract
+  _ ← may_change sender addr
+  _ ← becomes (λ s. with_admin s addr None)
+  done (only_events [])
+
+-- ---- codes
+
+-- the addresses of a list, if all its texts are addresses
+abbrev pub both_of : Option (List ℕ) → Option (List (List ℕ)) → Option (List (List ℕ))
+both_of None others = None
+both_of (Some addr) others = option_map (λ addrs. addr ∷ addrs) others
+
+abbrev pub addresses_of : List ℕ → List (List ℕ) → Option (List (List ℕ))
+addresses_of prefix [] = Some []
+addresses_of prefix (text ∷ texts) = both_of (address_of prefix text) (addresses_of prefix texts)
+
+-- those who may instantiate a code, where there is a list of them
+abbrev pub allowed_of : List ℕ → Option (List (List ℕ)) → Option (Option (List (List ℕ)))
+allowed_of prefix None = Some None
+allowed_of prefix (Some texts) = option_map Some (addresses_of prefix texts)
+
+abbrev pub allowed_in : Option (List (List ℕ)) → Part (Option (List (List ℕ)))
+allowed_in allow = reads (λ s. or_fails address_bad (allowed_of s.facts.prefix allow))
+
+-- a code that is paid for, with the addresses of those who may instantiate it
+abbrev pub stores : List ℕ → List ℕ → Option (List (List ℕ)) → Part Outcome
+stores sender code allow = do
+  _ ← reads (λ s. stops_if (option_map code_failure (store_refusal s code)))
+  id ← reads (λ s. done s.counters.next_code)
+  _ ← becomes (λ s. stored s sender code allow)
+  done (only_events (code_stored code id ∷ []))
+
+-- the gate looks at the code after it is paid
+unfoldable pub store_code : Schedule → List ℕ → List ℕ → Option (List (List ℕ)) → Part Outcome
+store_code costs sender code allow = do
+  allowed ← allowed_in allow
+  _ ← charge (store_code_cost costs (length code))
+  stores sender code allowed
+
+-- one event for each id of the list, whether it was pinned before or not
+unfoldable pub pin_codes : List ℕ → List ℕ → Part Outcome
+pin_codes sender ids = do
+  _ ← reads (λ s. stops_if (option_map code_failure (pin_refusal s sender ids)))
+  _ ← becomes (λ s. pinned s ids)
+  done (only_events (map (of_code (codes "pin_code")) ids))
+
+unfoldable pub unpin_codes : List ℕ → List ℕ → Part Outcome
+unpin_codes sender ids = do
+  _ ← reads (λ s. stops_if (option_map code_failure (unpin_refusal s sender ids)))
+  _ ← becomes (λ s. unpinned s ids)
+  done (only_events (map (of_code (codes "unpin_code")) ids))
+
 -- ---- every message
 
 -- by its kind; what isn't there yet is unsupported, by the name of its form
@@ -86,8 +156,8 @@ by_kind costs sender (execute contract msg funds) = fails (unsupported (codes "w
 by_kind costs sender (instantiate admin code_id msg funds label None) = fails (unsupported (codes "wasm.instantiate"))
 by_kind costs sender (instantiate admin code_id msg funds label (Some salt)) = fails (unsupported (codes "wasm.instantiate2"))
 by_kind costs sender (migrate contract new_code_id msg) = fails (unsupported (codes "wasm.migrate"))
-by_kind costs sender (update_admin contract admin) = fails (unsupported (codes "wasm.update_admin"))
-by_kind costs sender (clear_admin contract) = fails (unsupported (codes "wasm.clear_admin"))
+by_kind costs sender (update_admin contract admin) = change_admin sender contract admin
+by_kind costs sender (clear_admin contract) = drop_admin sender contract
 by_kind costs sender (other kind) = fails (unsupported kind)
 
 -- messages nest at most so deep

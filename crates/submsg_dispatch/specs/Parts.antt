@@ -36,6 +36,15 @@ abbrev pub or_fails : {A : Type 0} → Failure → Option A → Part A
 or_fails failure None = fails failure
 or_fails failure (Some x) = done x
 
+-- nothing where there is no failure, and else that one
+abbrev pub stops_if : Option Failure → Part (Unit {0})
+stops_if None = done tt
+stops_if (Some failure) = fails failure
+
+-- the state becomes what a function makes of it
+abbrev pub becomes : (State → State) → Part (Unit {0})
+becomes step s left = record { ended = kept (step s) tt; left = left; fetched = [] }
+
 -- with what the state says
 abbrev pub reads : {A : Type 0} → (State → Part A) → Part A
 reads part s left = part s s left

@@ -12,7 +12,8 @@ use Rattle.chain_msgs.specs.Forms.{tx_msg_of}
 use Rattle.submsg_dispatch.specs.Parts.{Part, Ended, kept, failed, out_of_gas, Ran, done, fails, charge, or_fails, ◌>>=◌}
 use Rattle.submsg_dispatch.specs.Failures.{address_bad, message_bad, no_messages, unsupported}
 use Rattle.submsg_dispatch.specs.Failures as failures
-use Rattle.submsg_dispatch.specs.Messages.{Outcome, handled}
+use Rattle.submsg_dispatch.specs.Messages.{Outcome, handled, pin_codes, unpin_codes}
+use Rattle.submsg_dispatch.specs.Messages as messages
 
 -- ---- messages
 
@@ -20,11 +21,15 @@ use Rattle.submsg_dispatch.specs.Messages.{Outcome, handled}
 abbrev pub unbuilt : Schedule → List ℕ → Part Outcome
 unbuilt costs kind = charge costs.message >>= λ _. fails (unsupported kind)
 
+-- one that is paid before all else that is looked at
+abbrev pub paid : Schedule → Part Outcome → Part Outcome
+paid costs part = charge costs.message >>= λ _. part
+
 abbrev pub tx_handled : Schedule → List ℕ → ℕ → TxMsg → Part Outcome
 tx_handled costs sender index (cosmos msg) = handled costs sender msg index 0
-tx_handled costs sender index (store_code code allow) = unbuilt costs (codes "store_code")
-tx_handled costs sender index (pin ids) = unbuilt costs (codes "pin_code")
-tx_handled costs sender index (unpin ids) = unbuilt costs (codes "unpin_code")
+tx_handled costs sender index (store_code code allow) = paid costs (messages.store_code costs sender code allow)
+tx_handled costs sender index (pin ids) = paid costs (pin_codes sender ids)
+tx_handled costs sender index (unpin ids) = paid costs (unpin_codes sender ids)
 tx_handled costs sender index (sudo contract msg) = unbuilt costs (codes "sudo")
 
 -- a message's form is looked at when its turn comes, and before it is paid

@@ -1,6 +1,6 @@
 -- Not for readers of contracts: it serves the proofs of this crate alone.
 -- What calls do where the prefix of addresses was read before, and what the stops of the crates below say here.
-use Rattle.std.specs.Prelude.{ℕ, ◌≡◌, List, [], ◌∷◌, map, codes, Option, None, Some, IsSome, Result, Ok, Err, ⊤, string_bytes}
+use Rattle.std.specs.Prelude.{ℕ, ◌≡◌, List, [], ◌∷◌, map, codes, Option, None, Some, option_map, IsSome, Result, Ok, Err, ⊤, string_bytes}
 use Rattle.std.specs.Global.{Vec}
 use Rattle.std.specs.declared.alloc.AllocError.{AllocError}
 use Rattle.json_shapes.specs.declared.stop.ShapeStop.{ShapeStop}
@@ -10,9 +10,18 @@ use Rattle.kv_layers.specs.declared.layers.Layers.{Layers}
 use Rattle.kv_layers.specs.Layers.{Stands, Turns}
 use Rattle.kv_layers.specs.Maps.{Maps, changed, kept as kept_layer, dropped}
 use Rattle.chain_records.specs.State.{Bytes, State, Spells}
+use Rattle.chain_records.specs.Records.{list_view}
 use Rattle.chain_records.specs.Spelled.{OfSome}
 use Rattle.bank_ledger.specs.declared.stop.BankStop.{BankStop}
 use Rattle.bank_ledger.specs.declared.stop.BankStop.TheVariants as bank_stops
+use Rattle.wasm_types.specs.Plain.{plain_refusal}
+use Rattle.code_registry.specs.declared.stop.CodeStop.{CodeStop}
+use Rattle.code_registry.specs.declared.stop.CodeStop.TheVariants as code_stops
+use Rattle.code_registry.specs.Codes as codes_of
+use Rattle.contract_admin.specs.declared.stop.AdminStop.{AdminStop}
+use Rattle.contract_admin.specs.declared.stop.AdminStop.TheVariants as admin_stops
+use Rattle.contract_admin.specs.Administration as contracts
+use Rattle.contract_admin.specs.Administration.{with_admin}
 use Rattle.gatekeeper.specs.Cache.{Tally}
 use Rattle.gatekeeper.specs.Fetches.{Tallies}
 use Rattle.chain_msgs.specs.declared.event.Event as event_type
@@ -23,11 +32,11 @@ use Rattle.query_router.specs.Lawful.{IsLawful}
 use Rattle.submsg_dispatch.specs.declared.outcome.Outcome as outcome_type
 use Rattle.submsg_dispatch.specs.declared.stop.HandleStop.{HandleStop}
 use Rattle.submsg_dispatch.specs.declared.stop.HandleStop.TheVariants.{Failed, OutOfGas, NoMemory}
-use Rattle.submsg_dispatch.specs.Parts.{Part, Ran, kept, failed, out_of_gas, done, reads, ◌>>=◌}
-use Rattle.submsg_dispatch.specs.Failures.{not_enough, message_bad}
+use Rattle.submsg_dispatch.specs.Parts.{Part, Ran, kept, failed, out_of_gas, done, becomes, reads, ◌>>=◌}
+use Rattle.submsg_dispatch.specs.Failures.{not_enough, message_bad, code_failure, contract_failure}
 use Rattle.submsg_dispatch.specs.Failures as failures
 use Rattle.submsg_dispatch.specs.Events.{transfer, burn}
-use Rattle.submsg_dispatch.specs.Messages.{Outcome, only_events, moves, burns}
+use Rattle.submsg_dispatch.specs.Messages.{Outcome, only_events, moves, burns, may_change}
 use Rattle.submsg_dispatch.specs.Transactions.{TxRan, failed_result, succeeded}
 use Rattle.submsg_dispatch.specs.Blocks.{all_run}
 use Rattle.submsg_dispatch.specs.Views.{outcome_view}
@@ -40,6 +49,9 @@ bytes_view bytes = bytes.items
 
 abbrev pub events_view : Vec event_type.Event → List Event
 events_view events = map event_view events.items
+
+abbrev pub allowed_view : Option (Vec (Vec ℕ)) → Option (List (List ℕ))
+allowed_view allowed = option_map list_view allowed
 
 abbrev pub outcomes_view : Vec outcome_type.Outcome → List Outcome
 outcomes_view outcomes = map outcome_view outcomes.items
@@ -73,6 +85,31 @@ abbrev pub Lacks : BankStop → HandleStop → Type 0
 Lacks (bank_stops.NotEnough denom have want) stop = Fails stop (not_enough (record { denom = string_bytes denom; have = have; want = want }))
 Lacks bank_stops.NoMemory stop = stop ≡ NoMemory
 
+-- the stop of the registry of codes, as one of a message
+abbrev pub TellsCode : CodeStop → HandleStop → Type 0
+TellsCode (code_stops.Refused refusal) stop = Fails stop (code_failure (codes_of.refused (plain_refusal refusal)))
+TellsCode code_stops.NotAuthority stop = Fails stop (code_failure codes_of.not_authority)
+TellsCode (code_stops.NoSuchCode id) stop = Fails stop (code_failure (codes_of.no_such_code id))
+TellsCode code_stops.TooManyCodes stop = Fails stop (code_failure codes_of.too_many_codes)
+TellsCode code_stops.TooManyPins stop = Fails stop (code_failure codes_of.too_many_pins)
+TellsCode code_stops.NoMemory stop = stop ≡ NoMemory
+
+-- the stop of a change of a contract, as one of a message
+abbrev pub TellsContract : List ℕ → List ℕ → AdminStop → HandleStop → Type 0
+TellsContract prefix addr admin_stops.NoSuchContract stop = Fails stop (contract_failure prefix addr contracts.no_such_contract)
+TellsContract prefix addr admin_stops.NotAdmin stop = Fails stop (contract_failure prefix addr contracts.not_admin)
+TellsContract prefix addr (admin_stops.NoSuchCode id) stop = Fails stop (contract_failure prefix addr (contracts.no_such_code id))
+TellsContract prefix addr admin_stops.MayNotInstantiate stop = Fails stop (contract_failure prefix addr contracts.may_not_instantiate)
+TellsContract prefix addr admin_stops.AddressTaken stop = Fails stop (contract_failure prefix addr contracts.address_taken)
+TellsContract prefix addr admin_stops.LabelBad stop = Fails stop (contract_failure prefix addr contracts.label_bad)
+TellsContract prefix addr admin_stops.NoMemory stop = stop ≡ NoMemory
+
+-- the stop of a check that is looked at first, or else the other one
+abbrev pub StopsFirst : HandleStop → HandleStop → Option Failure → Type 0
+StopsFirst other NoMemory refusal = ⊤
+StopsFirst other stop None = stop ≡ other
+StopsFirst other stop (Some failure) = Fails stop failure
+
 -- the stop of a value that is no message
 abbrev pub MissesForm : ShapeStop → HandleStop → Type 0
 MissesForm (shape_stops.Shape path want) stop = Fails stop message_bad
@@ -92,6 +129,10 @@ moves_told from to coins = moves from to coins >>= λ _. reads (λ s. done (tran
 
 abbrev pub burns_told : List ℕ → List Coin → Part Outcome
 burns_told from coins = burns from coins >>= λ _. reads (λ s. done (only_events (burn s.facts.prefix from coins ∷ [])))
+
+-- a contract gets another admin, or none
+abbrev pub admin_put : List ℕ → List ℕ → Option (List ℕ) → Part Outcome
+admin_put sender addr admin = may_change sender addr >>= λ _. becomes (λ s. with_admin s addr admin) >>= λ _. done (only_events [])
 
 -- the name of the form of a message that makes a contract, which has a salt or none
 abbrev pub instantiate_kind : Option (List ℕ) → List ℕ

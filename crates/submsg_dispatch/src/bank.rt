@@ -7,14 +7,14 @@ ghost use Rattle.kv_layers.specs.Layers as stacks;
 ghost use Rattle.kv_layers.specs.Layers.{HasCurrent};
 ghost use Rattle.chain_records.specs.Keys.{IsAddress};
 ghost use Rattle.gatekeeper.specs.Cache.{Tally};
-ghost use Rattle.submsg_dispatch.specs.Messages.{only_events, transfers, send_coins, burn_coins};
+ghost use Rattle.submsg_dispatch.specs.Messages.{transfers, send_coins, burn_coins};
 ghost use Rattle.submsg_dispatch.specs.Views.{outcome_view};
 ghost use Rattle.submsg_dispatch.specs.Under.{LeadsUnder, HasLawfulUnder, Lacks, moves_told, burns_told, events_view};
 
 use crate::charges::charge_coins;
 use crate::events;
 use crate::failures::{not_enough, stop_of};
-use crate::outcome::Outcome;
+use crate::outcome::{Outcome, only_events};
 use crate::reading::{address_in, coins_in};
 use crate::stop::HandleStop;
 use bank_ledger::{BankStop, burn, send};
@@ -23,26 +23,6 @@ use coin_amounts::{Coins, RawCoin};
 use gas_meter::{Meter, Schedule};
 use kv_layers::{Base, Layers};
 use std::alloc::{AllocError, Global};
-
-/// One event.
-fn one(alloc: Global, event: Event) -> Result<Vec<Event>, AllocError>
-    ensures { IfOk result (λ events. events.items ≡ event ∷ []) }
-{
-    let mut events = Vec::with_capacity(alloc, 1)?;
-    events.push(event)?;
-    Ok(events)
-}
-
-/// What a message gives that gives events alone.
-fn only_events(events: Vec<Event>) -> Outcome
-    ensures { outcome_view result ≡ only_events (events_view events) }
-{
-    Outcome {
-        events,
-        out: None,
-        reply_out: None,
-    }
-}
 
 /// The stop of a bank that has too little.
 fn bank_stop(alloc: Global, stop: BankStop) -> HandleStop
@@ -74,7 +54,7 @@ fn move_coins<B: Base>(
     match send(alloc, layers, from, to, coins) {
         Ok(()) => {
             let event = events::transfer(alloc, prefix, from, to, coins)?;
-            Ok(one(alloc, event)?)
+            Ok(events::one(alloc, event)?)
         }
         Err(stop) => Err(bank_stop(alloc, stop)),
     }
@@ -98,7 +78,7 @@ fn burn_paid<B: Base>(
     match burn(alloc, layers, from, coins) {
         Ok(()) => {
             let event = events::burn(alloc, prefix, from, coins)?;
-            Ok(only_events(one(alloc, event)?))
+            Ok(only_events(events::one(alloc, event)?))
         }
         Err(stop) => Err(bank_stop(alloc, stop)),
     }

@@ -2,7 +2,7 @@
 
 ghost use Rattle.std.specs.Prelude.{◌≡◌, ◌+◌, ◌-◌, ◌<◌, ◌≤◌, length, OnOk, IfErr};
 ghost use Rattle.coin_amounts.specs.Coins.{coins_view};
-ghost use Rattle.gas_meter.specs.Costs.{coins_cost};
+ghost use Rattle.gas_meter.specs.Costs.{coins_cost, store_code_cost};
 ghost use Rattle.submsg_dispatch.specs.declared.stop.HandleStop.TheVariants.{OutOfGas};
 
 use crate::stop::HandleStop;
@@ -35,5 +35,23 @@ pub(crate) fn charge_coins(
     ensures gas { meter.new.left + meter.new.used ≡ meter.old.left + meter.old.used }
 {
     meter.charge_wide(u128::from(costs.coin) * coins.len() as u128)?;
+    Ok(())
+}
+
+/// Charges the code that a message stores.
+pub(crate) fn charge_code(
+    meter: &mut Meter,
+    costs: &Schedule,
+    code: &[u8],
+) -> Result<(), HandleStop>
+    ensures ok { OnOk result ((store_code_cost costs.now (length code.now) ≤ meter.old.left)
+        × (meter.new.left ≡ meter.old.left - store_code_cost costs.now (length code.now))) }
+    ensures err { IfErr result (λ stop. (stop ≡ OutOfGas)
+        × (meter.old.left < store_code_cost costs.now (length code.now))
+        × (meter.new.left ≡ 0)) }
+    ensures gas { meter.new.left + meter.new.used ≡ meter.old.left + meter.old.used }
+{
+    let bytes = u128::from(costs.store_code_byte) * code.len() as u128;
+    meter.charge_wide(u128::from(costs.store_code) + bytes)?;
     Ok(())
 }

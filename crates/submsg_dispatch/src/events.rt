@@ -1,6 +1,8 @@
 //! The events of messages.
 
-ghost use Rattle.std.specs.Prelude.{◌≡◌, IfOk, string_bytes};
+ghost use Rattle.std.specs.Prelude.{◌≡◌, ℕ, List, [], ◌∷◌, IfOk, map, string_bytes};
+ghost use Rattle.hex.specs.Hex.{encode_lower};
+ghost use Rattle.sha2.specs.Sha256.{sha256};
 ghost use Rattle.coin_amounts.specs.Coins.{coins_view};
 ghost use Rattle.chain_addr.specs.Letters.{IsPrefix};
 ghost use Rattle.chain_msgs.specs.Plain.{attribute_view, event_view};
@@ -18,6 +20,15 @@ fn attribute(alloc: Global, key: &str, value: String) -> Result<Attribute, Alloc
         key: String::from_str(alloc, key)?,
         value,
     })
+}
+
+/// One event.
+pub(crate) fn one(alloc: Global, event: Event) -> Result<Vec<Event>, AllocError>
+    ensures { IfOk result (λ events. events.items ≡ event ∷ []) }
+{
+    let mut events = Vec::with_capacity(alloc, 1)?;
+    events.push(event)?;
+    Ok(events)
 }
 
 /// The event of coins that moved.
@@ -65,4 +76,42 @@ pub(crate) fn burn(
         kind: String::from_str(alloc, "burn")?,
         attributes,
     })
+}
+
+/// The event of a code that is stored under an id; this is its checksum in hex.
+pub(crate) fn code_stored(alloc: Global, checksum: String, id: u64) -> Result<Event, AllocError>
+    ensures { (code : List ℕ) → string_bytes checksum ≡ encode_lower (sha256 code)
+        → IfOk result (λ event. event_view event ≡ plain.code_stored code id) }
+{
+    let mut attributes = Vec::with_capacity(alloc, 2)?;
+    attributes.push(attribute(alloc, "code_checksum", checksum)?)?;
+    attributes.push(attribute(alloc, "code_id", format!(in alloc; "{id}")?)?)?;
+    Ok(Event {
+        kind: String::from_str(alloc, "store_code")?,
+        attributes,
+    })
+}
+
+/// An event of this kind on the code with an id.
+fn of_code(alloc: Global, kind: &str, id: u64) -> Result<Event, AllocError>
+    ensures { IfOk result (λ event. event_view event ≡ plain.of_code kind.now id) }
+{
+    let mut attributes = Vec::with_capacity(alloc, 1)?;
+    attributes.push(attribute(alloc, "code_id", format!(in alloc; "{id}")?)?)?;
+    Ok(Event {
+        kind: String::from_str(alloc, kind)?,
+        attributes,
+    })
+}
+
+/// One such event for each id of a list, in order.
+pub(crate) fn of_codes(alloc: Global, kind: &str, ids: &[u64]) -> Result<Vec<Event>, AllocError>
+    ensures { IfOk result (λ events. map event_view events.items
+        ≡ map (plain.of_code kind.now) ids.now) }
+{
+    let mut events = Vec::with_capacity(alloc, ids.len())?;
+    for id in ids {
+        events.push(of_code(alloc, kind, *id)?)?;
+    }
+    Ok(events)
 }

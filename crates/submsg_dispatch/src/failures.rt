@@ -70,6 +70,24 @@ pub(crate) fn not_enough(
     })
 }
 
+pub(crate) fn not_authority(alloc: Global) -> Result<Failure, AllocError>
+    ensures { IfOk result (λ failure. failure_view failure ≡ plain.not_authority) }
+{
+    sdk(alloc, FailKind::NotAuthority, 4, "NotAuthority")
+}
+
+pub(crate) fn not_admin(alloc: Global) -> Result<Failure, AllocError>
+    ensures { IfOk result (λ failure. failure_view failure ≡ plain.not_admin) }
+{
+    sdk(alloc, FailKind::NotAdmin, 4, "NotAdmin")
+}
+
+pub(crate) fn may_not_instantiate(alloc: Global) -> Result<Failure, AllocError>
+    ensures { IfOk result (λ failure. failure_view failure ≡ plain.may_not_instantiate) }
+{
+    sdk(alloc, FailKind::MayNotInstantiate, 4, "MayNotInstantiate")
+}
+
 pub(crate) fn address_bad(alloc: Global) -> Result<Failure, AllocError>
     ensures { IfOk result (λ failure. failure_view failure ≡ plain.address_bad) }
 {
@@ -100,6 +118,36 @@ pub(crate) fn no_messages(alloc: Global) -> Result<Failure, AllocError>
     sdk(alloc, FailKind::NoMessages, 18, "NoMessages")
 }
 
+pub(crate) fn label_bad(alloc: Global) -> Result<Failure, AllocError>
+    ensures { IfOk result (λ failure. failure_view failure ≡ plain.label_bad) }
+{
+    sdk(alloc, FailKind::LabelBad, 18, "LabelBad")
+}
+
+/// The gate refuses a code, for this reason.
+pub(crate) fn store_refused(alloc: Global, text: String) -> Result<Failure, AllocError>
+    ensures { IfOk result (λ failure. failure_view failure
+        ≡ plain.store_refused (string_bytes text)) }
+{
+    let mut detail = String::new(alloc);
+    write!(detail, "StoreRefused {}", text)?;
+    wasm(alloc, FailKind::StoreRefused(text), 2, detail.as_str())
+}
+
+pub(crate) fn address_taken(alloc: Global) -> Result<Failure, AllocError>
+    ensures { IfOk result (λ failure. failure_view failure ≡ plain.address_taken) }
+{
+    wasm(alloc, FailKind::AddressTaken, 3, "AddressTaken")
+}
+
+pub(crate) fn no_such_code(alloc: Global, id: u64) -> Result<Failure, AllocError>
+    ensures { IfOk result (λ failure. failure_view failure ≡ plain.no_such_code id) }
+{
+    let mut detail = String::new(alloc);
+    write!(detail, "NoSuchCode {}", id)?;
+    wasm(alloc, FailKind::NoSuchCode(id), 8, detail.as_str())
+}
+
 pub(crate) fn too_deep(alloc: Global) -> Result<Failure, AllocError>
     ensures { IfOk result (λ failure. failure_view failure ≡ plain.too_deep) }
 {
@@ -114,4 +162,26 @@ pub(crate) fn unsupported(alloc: Global, kind: &str) -> Result<Failure, AllocErr
     write!(detail, "Unsupported {}", kind)?;
     let kind = FailKind::Unsupported(String::from_str(alloc, kind)?);
     wasm(alloc, kind, 20, detail.as_str())
+}
+
+pub(crate) fn too_many_codes(alloc: Global) -> Result<Failure, AllocError>
+    ensures { IfOk result (λ failure. failure_view failure ≡ plain.too_many_codes) }
+{
+    wasm(alloc, FailKind::TooManyCodes, 18, "TooManyCodes")
+}
+
+pub(crate) fn too_many_pins(alloc: Global) -> Result<Failure, AllocError>
+    ensures { IfOk result (λ failure. failure_view failure ≡ plain.too_many_pins) }
+{
+    wasm(alloc, FailKind::TooManyPins, 18, "TooManyPins")
+}
+
+/// There is no contract with the address that this is the text of.
+pub(crate) fn no_such_contract(alloc: Global, text: String) -> Result<Failure, AllocError>
+    ensures { IfOk result (λ failure. failure_view failure
+        ≡ plain.no_such_contract (string_bytes text)) }
+{
+    let mut detail = String::new(alloc);
+    write!(detail, "NoSuchContract {}", text)?;
+    wasm(alloc, FailKind::NoSuchContract(text), 22, detail.as_str())
 }

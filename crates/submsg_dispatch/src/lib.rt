@@ -2,9 +2,11 @@
 //! or nothing. What the transactions of a block do, one after the other.
 #![tactic(auto)]
 
+mod admins;
 mod bank;
 mod blocks;
 mod charges;
+mod codes;
 mod events;
 mod failures;
 mod message;

@@ -14,6 +14,7 @@ ghost use Rattle.submsg_dispatch.specs.Reaching.{Leads, UnlessNoMemory};
 ghost use Rattle.submsg_dispatch.specs.Under.{LeadsUnder, HasLawfulUnder, instantiate_kind};
 ghost use Rattle.submsg_dispatch.specs.Views.{outcome_view};
 
+use crate::admins::{change_admin, drop_admin};
 use crate::bank::{burn_coins, send_coins};
 use crate::charges::charge_message;
 use crate::failures::{stop_of, too_deep, unsupported};
@@ -118,8 +119,13 @@ fn by_kind<B: Base>(
             Err(stop_of(unsupported(alloc, instantiate_kind(salt))))
         }
         CosmosMsg::Migrate { .. } => Err(stop_of(unsupported(alloc, "wasm.migrate"))),
-        CosmosMsg::UpdateAdmin { .. } => Err(stop_of(unsupported(alloc, "wasm.update_admin"))),
-        CosmosMsg::ClearAdmin { .. } => Err(stop_of(unsupported(alloc, "wasm.clear_admin"))),
+        CosmosMsg::UpdateAdmin { contract, admin } => {
+            let (contract, admin) = (contract.as_str(), admin.as_str());
+            change_admin(alloc, layers, prefix, sender, contract, admin)
+        }
+        CosmosMsg::ClearAdmin { contract } => {
+            drop_admin(alloc, layers, prefix, sender, contract.as_str())
+        }
         CosmosMsg::Other { kind } => Err(stop_of(unsupported(alloc, kind.as_str()))),
     }
 }

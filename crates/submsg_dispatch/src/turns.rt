@@ -1,16 +1,20 @@
 //! The messages of a transaction, one after the other.
 
-ghost use Rattle.std.specs.Prelude.{◌≡◌, ◌+◌, map};
+ghost use Rattle.std.specs.Prelude.{◌≡◌, ◌+◌, ℕ, List, Option, map, option_map, string_bytes};
 ghost use Rattle.serde_json.specs.View.{view};
 ghost use Rattle.kv_layers.specs.Layers as stacks;
 ghost use Rattle.kv_layers.specs.Layers.{HasCurrent};
 ghost use Rattle.chain_records.specs.Keys.{IsAddress};
 ghost use Rattle.chain_msgs.specs.Messages.{tx_msg_view};
-ghost use Rattle.submsg_dispatch.specs.Transactions.{unbuilt, tx_handled, read_and_handled, all_handled};
+ghost use Rattle.gatekeeper.specs.Cache.{Tally};
+ghost use Rattle.query_router.specs.Lawful.{HasLawful};
+ghost use Rattle.submsg_dispatch.specs.Messages.{store_code, pin_codes, unpin_codes};
+ghost use Rattle.submsg_dispatch.specs.Transactions.{unbuilt, paid, tx_handled, read_and_handled, all_handled};
 ghost use Rattle.submsg_dispatch.specs.Under.{LeadsUnder, LeadsOn, HasLawfulUnder, MissesForm, StopsAt, outcomes_view};
 ghost use Rattle.submsg_dispatch.specs.Views.{outcome_view};
 
 use crate::charges::charge_message;
+use crate::codes::{pin_codes, store_code, unpin_codes};
 use crate::failures::{message_bad, stop_of, unsupported};
 use crate::message::handle_under;
 use crate::outcome::Outcome;
@@ -34,6 +38,71 @@ fn unbuilt(alloc: Global, kind: &str, meter: &mut Meter, costs: &Schedule) -> Ha
     }
 }
 
+/// Charges a message that stores a code, and does it.
+fn store_paid<B: Base>(
+    alloc: Global,
+    layers: &mut Layers<B>,
+    prefix: &str,
+    sender: &[u8],
+    code: Vec<u8>,
+    allow: &Option<Vec<String>>,
+    meter: &mut Meter,
+    costs: &Schedule,
+) -> Result<Outcome, HandleStop>
+    requires sender { IsAddress sender.now }
+    requires lawful { HasLawfulUnder prefix.now (HasCurrent B.stands_for layers.old) }
+    ensures leads { (tally : Option Tally) → LeadsUnder prefix.now B.stands_for
+        layers.old layers.new tally tally meter.old.left meter.new.left
+        (paid costs.now (store_code costs.now sender.now code.items
+        (option_map (λ list. map string_bytes list.items) allow.now)))
+        outcome_view result }
+    ensures gas { meter.new.left + meter.new.used ≡ meter.old.left + meter.old.used }
+    ensures layers { stacks.depth layers.new ≡ stacks.depth layers.old }
+{
+    charge_message(meter, costs)?;
+    store_code(alloc, layers, prefix, sender, code, allow, meter, costs)
+}
+
+/// Charges a message that pins codes, and does it.
+fn pin_paid<B: Base>(
+    alloc: Global,
+    layers: &mut Layers<B>,
+    sender: &[u8],
+    ids: &[u64],
+    meter: &mut Meter,
+    costs: &Schedule,
+) -> Result<Outcome, HandleStop>
+    requires lawful { HasLawful (HasCurrent B.stands_for layers.old) }
+    ensures leads { (prefix : List ℕ) (tally : Option Tally) → LeadsUnder prefix B.stands_for
+        layers.old layers.new tally tally meter.old.left meter.new.left
+        (paid costs.now (pin_codes sender.now ids.now)) outcome_view result }
+    ensures gas { meter.new.left + meter.new.used ≡ meter.old.left + meter.old.used }
+    ensures layers { stacks.depth layers.new ≡ stacks.depth layers.old }
+{
+    charge_message(meter, costs)?;
+    pin_codes(alloc, layers, sender, ids)
+}
+
+/// Charges a message that unpins codes, and does it.
+fn unpin_paid<B: Base>(
+    alloc: Global,
+    layers: &mut Layers<B>,
+    sender: &[u8],
+    ids: &[u64],
+    meter: &mut Meter,
+    costs: &Schedule,
+) -> Result<Outcome, HandleStop>
+    requires lawful { HasLawful (HasCurrent B.stands_for layers.old) }
+    ensures leads { (prefix : List ℕ) (tally : Option Tally) → LeadsUnder prefix B.stands_for
+        layers.old layers.new tally tally meter.old.left meter.new.left
+        (paid costs.now (unpin_codes sender.now ids.now)) outcome_view result }
+    ensures gas { meter.new.left + meter.new.used ≡ meter.old.left + meter.old.used }
+    ensures layers { stacks.depth layers.new ≡ stacks.depth layers.old }
+{
+    charge_message(meter, costs)?;
+    unpin_codes(alloc, layers, sender, ids)
+}
+
 /// Does a message of a transaction.
 fn handle_tx_msg<B: Base, M: Modules>(
     alloc: Global,
@@ -41,7 +110,7 @@ fn handle_tx_msg<B: Base, M: Modules>(
     modules: &mut M,
     prefix: &str,
     sender: &[u8],
-    msg: &TxMsg,
+    msg: TxMsg,
     index: u32,
     meter: &mut Meter,
     costs: &Schedule,
@@ -50,17 +119,19 @@ fn handle_tx_msg<B: Base, M: Modules>(
     requires lawful { HasLawfulUnder prefix.now (HasCurrent B.stands_for layers.old) }
     ensures leads { LeadsUnder prefix.now B.stands_for layers.old layers.new
         (M.tally modules.old) (M.tally modules.new) meter.old.left meter.new.left
-        (tx_handled costs.now sender.now index (tx_msg_view msg.now)) outcome_view result }
+        (tx_handled costs.now sender.now index (tx_msg_view msg)) outcome_view result }
     ensures gas { meter.new.left + meter.new.used ≡ meter.old.left + meter.old.used }
     ensures layers { stacks.depth layers.new ≡ stacks.depth layers.old }
 {
     match msg {
         TxMsg::Cosmos(msg) => handle_under(
-            alloc, layers, modules, prefix, sender, msg, index, meter, costs, 0,
+            alloc, layers, modules, prefix, sender, &msg, index, meter, costs, 0,
         ),
-        TxMsg::StoreCode { .. } => Err(unbuilt(alloc, "store_code", meter, costs)),
-        TxMsg::Pin { .. } => Err(unbuilt(alloc, "pin_code", meter, costs)),
-        TxMsg::Unpin { .. } => Err(unbuilt(alloc, "unpin_code", meter, costs)),
+        TxMsg::StoreCode { code, allow } => store_paid(
+            alloc, layers, prefix, sender, code, &allow, meter, costs,
+        ),
+        TxMsg::Pin { ids } => pin_paid(alloc, layers, sender, &ids, meter, costs),
+        TxMsg::Unpin { ids } => unpin_paid(alloc, layers, sender, &ids, meter, costs),
         TxMsg::Sudo { .. } => Err(unbuilt(alloc, "sudo", meter, costs)),
     }
 }
@@ -97,7 +168,7 @@ fn read_and_handle<B: Base, M: Modules>(
 {
     match read_tx_msg(alloc, value) {
         Ok(msg) => handle_tx_msg(
-            alloc, layers, modules, prefix, sender, &msg, index, meter, costs,
+            alloc, layers, modules, prefix, sender, msg, index, meter, costs,
         ),
         Err(stop) => Err(message_stop(alloc, stop)),
     }

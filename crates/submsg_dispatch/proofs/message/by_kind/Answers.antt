@@ -3,7 +3,7 @@ use Rattle.coin_amounts.specs.Plain.{raw_coin_view}
 use Rattle.chain_msgs.specs.Plain.{out_view}
 use Rattle.submsg_dispatch.specs.Parts.{fails}
 use Rattle.submsg_dispatch.specs.Failures.{unsupported}
-use Rattle.submsg_dispatch.specs.Messages.{send_coins, burn_coins}
+use Rattle.submsg_dispatch.specs.Messages.{send_coins, burn_coins, change_admin, drop_admin}
 use Rattle.submsg_dispatch.proofs.Refusing.{by_sort, by_form, instantiates}
 use Rattle.submsg_dispatch.proofs.message.by_kind.Goals as goal
 
@@ -33,11 +33,15 @@ pub returns-in-Migrate-clause-leads : goal.returns-in-Migrate-clause-leads
 returns-in-Migrate-clause-leads g c = λ tally. by_form tally _ _ c.args.costs.now c.args.sender.now (codes "wasm.migrate") _ _ c.in-Migrate.is refl c.stop_of-in-Migrate.ensures c.unsupported-in-Migrate.ensures
 
 pub returns-in-UpdateAdmin-clause-leads : goal.returns-in-UpdateAdmin-clause-leads
-returns-in-UpdateAdmin-clause-leads g c = λ tally. by_form tally _ _ c.args.costs.now c.args.sender.now (codes "wasm.update_admin") _ _ c.in-UpdateAdmin.is refl c.stop_of-in-UpdateAdmin.ensures c.unsupported-in-UpdateAdmin.ensures
+returns-in-UpdateAdmin-clause-leads g c = λ tally.
+    let does = rw (c.as_str-contract.ensures.value, c.as_str-admin.ensures.value) at (c.change_admin.ensures.leads tally c.args.meter.now.left) in
+    by_sort (change_admin c.args.sender.now (string_bytes c.in-UpdateAdmin.contract) (string_bytes c.in-UpdateAdmin.admin)) c.args.costs.now c.args.sender.now _ _ c.in-UpdateAdmin.is refl does
 
 pub returns-in-ClearAdmin-clause-leads : goal.returns-in-ClearAdmin-clause-leads
-returns-in-ClearAdmin-clause-leads g c = λ tally. by_form tally _ _ c.args.costs.now c.args.sender.now (codes "wasm.clear_admin") _ _ c.in-ClearAdmin.is refl c.stop_of-in-ClearAdmin.ensures c.unsupported-in-ClearAdmin.ensures
+returns-in-ClearAdmin-clause-leads g c = λ tally.
+    let does = rw c.as_str.ensures.value at (c.drop_admin.ensures.leads tally c.args.meter.now.left) in
+    by_sort (drop_admin c.args.sender.now (string_bytes c.in-ClearAdmin.contract)) c.args.costs.now c.args.sender.now _ _ c.in-ClearAdmin.is refl does
 
 pub returns-in-Other-clause-leads : goal.returns-in-Other-clause-leads
 returns-in-Other-clause-leads g c = λ tally.
-    by_form tally _ _ c.args.costs.now c.args.sender.now c.as_str.result.now _ _ c.in-Other.is (ap (λ kind. fails (unsupported kind)) (sym c.as_str.ensures.value)) c.stop_of-in-Other.ensures c.unsupported-in-Other.ensures
+    by_form tally _ _ c.args.costs.now c.args.sender.now c.as_str-in-Other.result.now _ _ c.in-Other.is (ap (λ kind. fails (unsupported kind)) (sym c.as_str-in-Other.ensures.value)) c.stop_of-in-Other.ensures c.unsupported-in-Other.ensures

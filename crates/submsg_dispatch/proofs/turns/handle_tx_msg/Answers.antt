@@ -1,4 +1,6 @@
-use Rattle.std.proofs.Common.{refl, codes}
+use Rattle.std.proofs.Common.{refl, codes, List, map, string_bytes, option_map}
+use Rattle.submsg_dispatch.specs.Parts.{charge, ◌>>=◌}
+use Rattle.submsg_dispatch.specs.Messages.{store_code, pin_codes, unpin_codes}
 use Rattle.submsg_dispatch.proofs.Refusing.{tx_sort, tx_form}
 use Rattle.submsg_dispatch.proofs.turns.handle_tx_msg.Goals as goal
 
@@ -6,13 +8,17 @@ pub returns-in-Cosmos-clause-leads : goal.returns-in-Cosmos-clause-leads
 returns-in-Cosmos-clause-leads g c = tx_sort _ c.args.costs.now c.args.sender.now c.args.index _ _ c.in-Cosmos.is refl c.handle_under.ensures.leads
 
 pub returns-in-StoreCode-clause-leads : goal.returns-in-StoreCode-clause-leads
-returns-in-StoreCode-clause-leads g c = tx_form _ _ c.args.costs.now c.args.sender.now (codes "store_code") c.args.index _ _ c.in-StoreCode.is refl c.unbuilt.ensures.stop
+returns-in-StoreCode-clause-leads g c = tx_sort _ c.args.costs.now c.args.sender.now c.args.index _ _ c.in-StoreCode.is refl (c.store_paid.ensures.leads _)
 
 pub returns-in-Pin-clause-leads : goal.returns-in-Pin-clause-leads
-returns-in-Pin-clause-leads g c = tx_form _ _ c.args.costs.now c.args.sender.now (codes "pin_code") c.args.index _ _ c.in-Pin.is refl c.unbuilt-in-Pin.ensures.stop
+returns-in-Pin-clause-leads g c =
+    let does = rw c.deref.ensures.value at (c.pin_paid.ensures.leads c.args.prefix.now (g.M.Modules.tally c.args.modules.now)) in
+    tx_sort _ c.args.costs.now c.args.sender.now c.args.index _ _ c.in-Pin.is refl does
 
 pub returns-in-Unpin-clause-leads : goal.returns-in-Unpin-clause-leads
-returns-in-Unpin-clause-leads g c = tx_form _ _ c.args.costs.now c.args.sender.now (codes "unpin_code") c.args.index _ _ c.in-Unpin.is refl c.unbuilt-in-Unpin.ensures.stop
+returns-in-Unpin-clause-leads g c =
+    let does = rw c.deref-in-Unpin.ensures.value at (c.unpin_paid.ensures.leads c.args.prefix.now (g.M.Modules.tally c.args.modules.now)) in
+    tx_sort _ c.args.costs.now c.args.sender.now c.args.index _ _ c.in-Unpin.is refl does
 
-pub returns-in-Sudo-clause-leads : goal.returns-in-Sudo-clause-leads
-returns-in-Sudo-clause-leads g c = tx_form _ _ c.args.costs.now c.args.sender.now (codes "sudo") c.args.index _ _ c.in-Sudo.is refl c.unbuilt-in-Sudo.ensures.stop
+pub returns-clause-leads : goal.returns-clause-leads
+returns-clause-leads g c = tx_form _ _ c.args.costs.now c.args.sender.now (codes "sudo") c.args.index _ _ c.in-Sudo.is refl c.unbuilt.ensures.stop
