@@ -277,7 +277,7 @@ def a_burn_is_seen_by_queries():
 
 
 def queries_find_no_contract_and_no_code():
-    """No message stores a code yet, so there are none on any chain."""
+    """On a chain on which no code was stored."""
     requests = [
         ({"smart": {"contract_addr": A, "msg": ""}}, {"no_such_contract": {"addr": A}}),
         ({"smart": {"contract_addr": A.upper(), "msg": "e30="}}, {"no_such_contract": {"addr": A}}),

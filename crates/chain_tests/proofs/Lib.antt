@@ -1,3 +1,6 @@
 pub mod Heights
 pub mod Pinning
 pub mod ListedCodes
+pub mod Storing
+pub mod Keeping
+pub mod Calls

@@ -53,7 +53,7 @@ fn told_tx(alloc: Global, layers: &mut Layers<Plain>, tx: &Tx) -> Result<Vec<u8>
 }
 
 /// What stands for an answer.
-fn text_of(alloc: Global, answer: Result<Answer, QueryStop>) -> Result<Vec<u8>, AllocError> {
+pub fn text_of(alloc: Global, answer: Result<Answer, QueryStop>) -> Result<Vec<u8>, AllocError> {
     match answer {
         Ok(Answer::Ok(bytes)) => Ok(bytes),
         Ok(answer) => write_answer(alloc, &answer),

@@ -1,5 +1,5 @@
-ghost use Rattle.std.specs.Prelude.{IfOk};
-ghost use Rattle.kv_layers.specs.Layers.{HasCurrent};
+ghost use Rattle.std.specs.Prelude.{◌≡◌, IfOk};
+ghost use Rattle.kv_layers.specs.Layers.{HasCurrent, depth};
 ghost use Rattle.query_router.specs.Lawful.{HasLawful};
 
 use crate::filled::ONE;
@@ -20,7 +20,8 @@ pub fn opened(alloc: Global) -> Result<Plain, Fail>
 
 /// The same chain in one layer.
 pub fn chain(alloc: Global) -> Result<Layers<Plain>, Fail>
-    ensures { IfOk result (λ layers. HasLawful (HasCurrent ⟦<Plain as Base>⟧.stands_for layers)) }
+    ensures lawful { IfOk result (λ layers. HasLawful (HasCurrent ⟦<Plain as Base>⟧.stands_for layers)) }
+    ensures layers { IfOk result (λ layers. depth layers ≡ 0) }
 {
     let plain = opened(alloc)?;
     Ok(Layers::new(alloc, plain))

@@ -1,10 +1,13 @@
-//! Tests of a chain: what a genesis opens, what transactions, messages, queries and blocks do, and what is pinned.
+//! Tests of a chain: what a genesis opens, what transactions, messages, queries and blocks do, what
+//! contracts are asked and ask, and what is pinned.
 #![tactic(auto)]
 
 #[cfg(test)]
 mod acts;
 #[cfg(test)]
 mod blocks;
+#[cfg(test)]
+mod called;
 #[cfg(test)]
 mod chain;
 #[cfg(test)]
@@ -21,5 +24,9 @@ mod opening;
 mod pins;
 #[cfg(test)]
 mod queries;
+#[cfg(test)]
+mod smart;
+#[cfg(test)]
+mod stored;
 #[cfg(test)]
 mod transactions;
