@@ -3,4 +3,3 @@ pub mod Pinning
 pub mod ListedCodes
 pub mod Storing
 pub mod Keeping
-pub mod Calls

@@ -25,6 +25,26 @@ pub enum Act {
     Query(u64, &'static str),
 }
 
+/// The sample `echo` is stored, and gets a contract.
+pub const FIRST: (Act, &str) = (
+    Act::Tx(
+        "%A%",
+        1_000_000,
+        r#"[{"store_code":{"code":"%ECHO%"}},{"wasm":{"instantiate":{"admin":null,"code_id":1,"funds":[],"label":"e","msg":"<{"ok":{}}>"}}}]"#,
+    ),
+    r#"{"code":0,"codespace":"","data":[null,null],"detail":"","events":[{"attributes":[{"key":"code_checksum","value":"6f0d71d4074a8824ee18920cefede8c222f8601821870ec3b97b85806b0d9d74"},{"key":"code_id","value":"1"}],"type":"store_code"},{"attributes":[{"key":"_contract_address","value":"%1%"},{"key":"code_id","value":"1"}],"type":"instantiate"}],"gas":72940}"#,
+);
+
+/// It gets another one.
+pub const SECOND: (Act, &str) = (
+    Act::Tx(
+        "%A%",
+        1_000_000,
+        r#"[{"wasm":{"instantiate":{"admin":null,"code_id":1,"funds":[],"label":"e","msg":"<{"ok":{}}>"}}}]"#,
+    ),
+    r#"{"code":0,"codespace":"","data":[null],"detail":"","events":[{"attributes":[{"key":"_contract_address","value":"%1.2%"},{"key":"code_id","value":"1"}],"type":"instantiate"}],"gas":61064}"#,
+);
+
 fn messages(alloc: Global, text: &str) -> Result<Vec<Value>, Fail> {
     match read_json(alloc, filled(alloc, text)?.as_bytes())? {
         Value::Array(msgs) => Ok(msgs),
@@ -90,7 +110,7 @@ fn told_query(
 }
 
 /// Does this, and tells what came of it.
-fn told(alloc: Global, layers: &mut Layers<Plain>, act: Act) -> Result<Vec<u8>, Fail>
+pub fn told(alloc: Global, layers: &mut Layers<Plain>, act: Act) -> Result<Vec<u8>, Fail>
     requires lawful { HasLawful (HasCurrent ⟦<Plain as Base>⟧.stands_for layers.old) }
     ensures { OnOk result (HasLawful (HasCurrent ⟦<Plain as Base>⟧.stands_for layers.new)) }
 {
@@ -104,9 +124,16 @@ fn told(alloc: Global, layers: &mut Layers<Plain>, act: Act) -> Result<Vec<u8>, 
     }
 }
 
-/// Does these one after another on a new chain, and compares what comes of each.
-pub fn expect_all(rt: &impl Abort, alloc: Global, acts: &[(Act, &str)]) -> Result<(), Fail> {
-    let mut layers = chain(alloc)?;
+/// Does these one after another on a chain, and compares what comes of each.
+pub fn expect_on(
+    rt: &impl Abort,
+    alloc: Global,
+    layers: Layers<Plain>,
+    acts: &[(Act, &str)],
+) -> Result<(), Fail>
+    requires { HasLawful (HasCurrent ⟦<Plain as Base>⟧.stands_for layers) }
+{
+    let mut layers = layers;
     for (act, want) in acts {
         let want = filled(alloc, want)?;
         assert_eq!(rt;
@@ -116,4 +143,10 @@ pub fn expect_all(rt: &impl Abort, alloc: Global, acts: &[(Act, &str)]) -> Resul
         );
     }
     Ok(())
+}
+
+/// Does these on a new chain.
+pub fn expect_all(rt: &impl Abort, alloc: Global, acts: &[(Act, &str)]) -> Result<(), Fail> {
+    let layers = chain(alloc)?;
+    expect_on(rt, alloc, layers, acts)
 }

@@ -164,7 +164,7 @@ fn a_message_that_is_not_of_the_bank_is_unsupported(rt: HostRuntime) -> Result<(
         ),
         (
             Act::Tx("%A%", 5000, r#"[{"sudo":{"contract":"%A%","msg":"AA=="}}]"#),
-            r#"{"code":20,"codespace":"wasm","data":[],"detail":"Unsupported sudo","events":[],"gas":1000}"#,
+            r#"{"code":22,"codespace":"wasm","data":[],"detail":"NoSuchContract %A%","events":[],"gas":1000}"#,
         ),
     ];
     expect_all(&rt, rt.alloc(), acts)

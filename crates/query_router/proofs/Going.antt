@@ -24,7 +24,8 @@ use Rattle.contract_call.specs.Calls.{Call, Outset, wants, part, only_reads}
 use Rattle.contract_call.specs.Steps.{IfQuery, GoesOnFrom, ComesTo}
 use Rattle.query_router.specs.declared.calls.Opened.{Opened}
 use Rattle.query_router.specs.Calls.{Called, over, fetched_before, gathered, gathered_all, outset_of}
-use Rattle.query_router.specs.Calling.{HasCome, EndsAt, IsBegun, IsReadyQuery, step_end}
+use Rattle.query_router.specs.Calling.{HasCome, IsBegun, IsReadyCall, step_end}
+use Rattle.query_router.specs.Endings.{EndsAt}
 use Rattle.query_router.specs.Lawful.{IsLawful}
 use Rattle.query_router.specs.Queries.{Queried, Asking}
 use Rattle.query_router.proofs.Gathering.{answered_here, unanswered_here, finished_here, faulted_here, ran_out_here, fetched_twice}
@@ -141,13 +142,13 @@ if_any (steps.Query request) p = p
 if_any (steps.Fault fault) p = tt
 if_any steps.OutOfGas p = tt
 
-module _ {B : Type 0} (S : B → Bytes → Type 0) (maps : Maps) (s : State) (opened : Opened) (ready : IsReadyQuery opened) (typed : SpellsStorage) (layers : Layers B) (stands : Stands S layers maps) (spelled : Spells maps.current s)
+module _ {B : Type 0} (S : B → Bytes → Type 0) (maps : Maps) (s : State) (opened : Opened) (ready : IsReadyCall opened) (typed : SpellsStorage) (layers : Layers B) (stands : Stands S layers maps) (spelled : Spells maps.current s)
     (call : Call) (begun : IsBegun s opened call) (costs : Schedule) (left : ℕ) where
   pub begins_from : GoesOnFrom S layers maps opened.store left costs (string_bytes opened.prefix) call (outset_of costs s (addr_of opened.store) left) []
   begins_from = record {
     holds = record { stands = stands; storage = sym (typed maps.current s (addr_of opened.store) (let most = ready.address.1 in omega arith) spelled); scans = sym ready.scans };
     gas = refl;
-    read_only = ready.read_only ∙ sym (ap only_reads begun.reads);
+    read_only = begun.reads;
     same_costs = refl;
     same_prefix = sym begun.same_prefix;
   }

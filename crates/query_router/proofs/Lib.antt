@@ -9,3 +9,4 @@ pub mod Opening
 pub mod Beginning
 pub mod Deep
 pub mod Nesting
+pub mod Entering

@@ -6,6 +6,7 @@ use Rattle.std.specs.FinMap.{get}
 use Rattle.chain_addr.specs.Letters.{IsPrefix}
 use Rattle.chain_msgs.specs.Plain.{answer_view}
 use Rattle.chain_records.specs.Keys.{IsAddress}
+use Rattle.chain_records.specs.Spelled.{OfSome}
 use Rattle.chain_records.specs.State.{Bytes, State, Spells}
 use Rattle.code_registry.specs.Codes.{bytes_at}
 use Rattle.gas_meter.specs.declared.schedule.Schedule.{Schedule}
@@ -27,13 +28,13 @@ use Rattle.contract_call.specs.declared.step.Step.TheVariants as steps
 use Rattle.contract_call.specs.Calls.{Call, call_of, Outset, Answer, only_reads}
 use Rattle.contract_call.specs.Running.{StandsForPart, CanGoOn}
 use Rattle.contract_call.specs.Steps.{IfQuery, ComesTo}
-use Rattle.query_router.specs.declared.calls.CallEnd.{CallEnd}
-use Rattle.query_router.specs.declared.calls.CallEnd.TheVariants as ends
 use Rattle.query_router.specs.declared.calls.Opened.{Opened}
 use Rattle.query_router.specs.declared.calls.Begun.{Begun}
 use Rattle.query_router.specs.declared.calls.Begun.TheVariants as begun
 use Rattle.query_router.specs.declared.stop.QueryStop.{QueryStop}
 use Rattle.query_router.specs.declared.stop.QueryStop.TheVariants.{OutOfGas, NoMemory}
+use Rattle.query_router.specs.Endings.{EndsAt}
+use Rattle.query_router.specs.Lawful.{IsLawful}
 use Rattle.query_router.specs.Calls.{Called, fetched_before, gathered, gathered_all, outset_of, smart_at, smart_told, too_deep}
 use Rattle.query_router.specs.Parts.{out_of_gas}
 use Rattle.query_router.specs.Queries.{Queried, Asking, Smart, answers}
@@ -85,16 +86,16 @@ Begins s costs left before after part (Err OutOfGas) = ((ask : Asking) → part 
 Begins s costs left before after part (Err NoMemory) = ⊤
 
 -- its call can begin
-pub record IsReadyQuery (opened : Opened) : Type 0 where
+pub record IsReadyCall (opened : Opened) : Type 0 where
   pub can_go_on : CanGoOn opened.running
   pub address : IsAddress (addr_of opened.store)
-  pub read_only : is_read_only opened.store ≡ true
   pub scans : scans_of opened.store ≡ []
   pub prefix : IsPrefix (string_bytes opened.prefix)
 
+-- and it is one that only reads
 abbrev pub IsReadyBegun : Begun → Type 0
 IsReadyBegun (begun.Known answer) = ⊤
-IsReadyBegun (begun.Call opened) = IsReadyQuery opened
+IsReadyBegun (begun.Call opened) = IsReadyCall opened × (is_read_only opened.store ≡ true)
 
 -- of a query that is answered by what comes of a call
 abbrev pub IfCall : Begun → Type 0 → Type 0
@@ -111,19 +112,22 @@ contracts_at costs (suc n) ask = smart_at ask costs
 -- its call is this one, of which nothing was done yet
 pub record IsBegun (s : State) (opened : Opened) (call : Call) : Type 0 where
   pub stands : (o : Outset) → StandsForPart opened.running call o []
-  pub reads : call.entry ≡ Query
+  pub reads : is_read_only opened.store ≡ only_reads call.entry
   pub same_prefix : string_bytes opened.prefix ≡ s.facts.prefix
 
--- the contract only reads, and the prefix is one
-pub record IsQueryScope (opened : Opened) : Type 0 where
+-- one of the maps spells a lawful state on which a call was begun
+abbrev pub HasBegun : (Bytes → Type 0) → Opened → Type 0
+HasBegun S opened = OfSome S (λ s. IsLawful s × ((call : Call) × IsBegun s opened call))
+
+-- the contract's address and the prefix are what they should be
+pub record IsScope (opened : Opened) : Type 0 where
   pub address : IsAddress (addr_of opened.store)
-  pub read_only : is_read_only opened.store ≡ true
   pub prefix : IsPrefix (string_bytes opened.prefix)
 
 -- the call is of the contract with this address, and began with these costs and this prefix
 pub record IsSetFor (addr : List ℕ) (costs : Schedule) (opened : Opened) (call : Call) (o : Outset) : Type 0 where
   pub same_addr : addr_of opened.store ≡ addr
-  pub reads : call.entry ≡ Query
+  pub reads : is_read_only opened.store ≡ only_reads call.entry
   pub same_costs : o.costs ≡ costs
   pub same_prefix : o.prefix ≡ string_bytes opened.prefix
 
@@ -138,25 +142,21 @@ pub record HasCome {B : Type 0} (S : B → Bytes → Type 0) (layers : Layers B)
   pub fetched : Tallies before codes after
   pub same : called ≡ fetched_before codes (gathered ask s addr call o (suc still) so_far)
 
+-- on one of the lawful states the call has come to this step so far, with such queries
+pub record IsUnderway {B : Type 0} (S : B → Bytes → Type 0) (layers : Layers B) (opened : Opened) (left : ℕ) (now : Option Tally) (costs : Schedule) (ask : Asking) (step : Step) : Type 0 where
+  pub maps : Maps
+  pub state : State
+  pub addr : List ℕ
+  pub call : Call
+  pub outset : Outset
+  pub before : Option Tally
+  pub called : Called
+  pub spelled : Spells maps.current state
+  pub lawful : IsLawful state
+  pub set_for : IsSetFor addr costs opened call outset
+  pub comes : HasCome S layers maps state addr opened left before now ask call outset called step
+
 -- ---- the end
-
-abbrev pub end_view : CallEnd → Ended (List ℕ)
-end_view (ends.Finished bytes) = gave bytes.items
-end_view (ends.Fault fault) = faulted (fault_view fault)
-
--- the call has ended so, with so much gas left, and the layers stand for the state with what the contract keeps then
-pub record EndsAt {B : Type 0} (S : B → Bytes → Type 0) (layers : Layers B) (maps : Maps) (s : State) (addr : List ℕ) (left : ℕ) (before after : Option Tally) (called : Called) (ended : Ended (List ℕ)) : Type 0 where
-  pub ended_so : called.ended ≡ ended
-  pub gas : called.left ≡ left
-  pub fetched : Tallies before called.fetched after
-  pub map : Bytes
-  pub stands : Stands S layers (changed maps map)
-  pub spelled : Spells map (with_storage s addr called.storage)
-
-abbrev pub Ends : {B : Type 0} → (B → Bytes → Type 0) → Layers B → Maps → State → List ℕ → ℕ → Option Tally → Option Tally → Called → Result CallEnd QueryStop → Type 0
-Ends S layers maps s addr left before after called (Ok end) = EndsAt S layers maps s addr left before after called (end_view end)
-Ends S layers maps s addr left before after called (Err OutOfGas) = EndsAt S layers maps s addr left before after called ran_out
-Ends S layers maps s addr left before after called (Err NoMemory) = ⊤
 
 abbrev pub HasGone : {B : Type 0} → (B → Bytes → Type 0) → Layers B → Maps → State → List ℕ → Opened → ℕ → Option Tally → Option Tally → Asking → Call → Outset → Called → Result Step QueryStop → Type 0
 HasGone S layers maps s addr opened left before after ask call o called (Ok step) = HasCome S layers maps s addr opened left before after ask call o called step

@@ -1,5 +1,5 @@
 -- Which states a chain can have.
-use Rattle.std.specs.Prelude.{IfSome}
+use Rattle.std.specs.Prelude.{ℕ, ◌≡◌, List, IfSome}
 use Rattle.chain_addr.specs.Letters.{IsPrefix}
 use Rattle.chain_records.specs.Keys.{IsAddress}
 use Rattle.chain_records.specs.State.{Bytes, State}
@@ -23,3 +23,7 @@ HasLawful S = OfSome S IsLawful
 -- of each lawful state that one of the maps spells
 abbrev pub OfEachLawful : (Bytes → Type 0) → (State → Type 0) → Type 0
 OfEachLawful S P = OfEach S (λ s. IsLawful s → P s)
+
+-- one of the maps spells a lawful state whose addresses have this prefix
+abbrev pub HasLawfulUnder : List ℕ → (Bytes → Type 0) → Type 0
+HasLawfulUnder prefix S = OfSome S (λ s. IsLawful s × (s.facts.prefix ≡ prefix))

@@ -7,4 +7,5 @@ pub mod Views
 pub mod Parts
 pub mod Examples
 pub mod Finding
+pub mod Endings
 pub mod Calling

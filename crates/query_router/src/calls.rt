@@ -9,12 +9,14 @@ ghost use Rattle.chain_msgs.specs.Answers.{query_result_in};
 ghost use Rattle.gas_meter.specs.declared.schedule.Schedule.{Schedule};
 ghost use Rattle.host_imports.specs.Faults.{fault_view, fault_text};
 ghost use Rattle.contract_call.specs.Calls.{only_reads, takes_info, arguments};
-ghost use Rattle.query_router.specs.Calling.{IsOpenedAt, IsReady, Begins, IsReadyBegun, end_view};
+ghost use Rattle.query_router.specs.Calling.{IsOpenedAt, IsReady, Begins, IsReadyBegun};
 ghost use Rattle.query_router.specs.Calls.{query_env, smart_at, result_answer, ended_answer};
+ghost use Rattle.query_router.specs.Endings.{end_view};
 ghost use Rattle.query_router.specs.Finding.{IsFoundAt};
 ghost use Rattle.query_router.specs.Lawful.{HasLawful, OfEachLawful};
 
 use crate::contracts::{Found, Named, contract_at};
+use crate::end::CallEnd;
 use crate::stop::QueryStop;
 use chain_addr::encode;
 use chain_msgs::{Answer, Env, ResponseStop, Told, read_query_result, write_env};
@@ -33,13 +35,6 @@ pub(crate) struct Opened {
     pub store: Scoped,
     /// Under which addresses are written.
     pub prefix: String,
-}
-
-/// How a call ended that didn't run out of gas.
-#[derive(Drop)]
-pub(crate) enum CallEnd {
-    Finished(Vec<u8>),
-    Fault(CallFault),
 }
 
 /// How a query is answered.

@@ -1,13 +1,13 @@
 //! How a query is answered.
 
-ghost use Rattle.std.specs.Prelude.{◌≡◌, ◌+◌, ◌-◌, ◌<◌, ◌≤◌, ℕ, List, [], Option, IfOk, IfErr};
+ghost use Rattle.std.specs.Prelude.{◌≡◌, ◌+◌, ◌-◌, ◌<◌, ◌≤◌, ℕ, List, [], Option, IfOk, IfErr, IsTrue};
 ghost use Rattle.chain_records.specs.State.{State, Spells};
 ghost use Rattle.gas_meter.specs.Ranges.{IsInRange};
 ghost use Rattle.kv_layers.specs.Layers.{HasCurrent, Stands, Turns};
 ghost use Rattle.kv_layers.specs.Layers as stacks;
 ghost use Rattle.kv_layers.specs.Maps.{Maps};
 ghost use Rattle.gas_store.specs.Effects.{IsSameScope};
-ghost use Rattle.gas_store.specs.Views.{addr_of};
+ghost use Rattle.gas_store.specs.Views.{addr_of, is_read_only};
 ghost use Rattle.gatekeeper.specs.Cache.{Tally};
 ghost use Rattle.gatekeeper.specs.Fetches.{Tallies};
 ghost use Rattle.host_imports.specs.Work.{ran_out};
@@ -16,7 +16,8 @@ ghost use Rattle.contract_call.specs.Running.{WaitsForAnswer};
 ghost use Rattle.contract_call.specs.Steps.{IfQuery};
 ghost use Rattle.query_router.specs.Answering.{Gives};
 ghost use Rattle.query_router.specs.Calls.{Called, gathered_all, outset_of, queries, query};
-ghost use Rattle.query_router.specs.Calling.{Begins, IsReadyBegun, IsReadyQuery, IfCall, IsBegun, IsQueryScope, IsSetFor, HasCome, HasGone, Ends, contracts_at, end_view, step_end};
+ghost use Rattle.query_router.specs.Calling.{Begins, IsReadyBegun, IsReadyCall, IfCall, IsBegun, HasBegun, IsScope, IsSetFor, HasCome, IsUnderway, HasGone, contracts_at, step_end};
+ghost use Rattle.query_router.specs.Endings.{Ends, end_view};
 ghost use Rattle.query_router.specs.Lawful.{IsLawful, HasLawful, OfEachLawful};
 ghost use Rattle.query_router.specs.Parts.{Tells};
 ghost use Rattle.query_router.specs.Queries.{Asking, Queried, answer_to, asked_answer, paid_answer};
@@ -25,10 +26,11 @@ ghost use Rattle.query_router.specs.Views.{request_view};
 
 use crate::answers::{invalid, unsupported};
 use crate::bank::{all_balances_answer, balance_answer, supply_answer};
-use crate::calls::{Begun, CallEnd, Opened, ask_contract, end_answer};
+use crate::calls::{Begun, Opened, ask_contract, end_answer};
 use crate::charge::charge;
 use crate::codes::code_info_answer;
 use crate::contracts::{contract_info_answer, raw_answer};
+use crate::end::CallEnd;
 use crate::forms::read_request;
 use crate::request::{Asked, Request};
 use crate::stop::QueryStop;
@@ -81,7 +83,7 @@ pub fn query<B: Base, M: Modules>(
 
 /// Has a call run to its end. What it asks is answered on the way, one level deeper than the call.
 #[cycle(queries)]
-fn finish<B: Base, M: Modules>(
+pub(crate) fn finish<B: Base, M: Modules>(
     alloc: Global,
     mut call: Opened,
     view: &mut Layers<B>,
@@ -92,8 +94,8 @@ fn finish<B: Base, M: Modules>(
 ) -> Result<CallEnd, QueryStop>
     requires depth { depth < 10 }
     requires costs { IsInRange costs.now }
-    requires lawful { HasLawful (HasCurrent B.stands_for view.old) }
-    requires ready { IsReadyQuery call }
+    requires begun { HasBegun (HasCurrent B.stands_for view.old) call }
+    requires ready { IsReadyCall call }
     ensures ends { (maps : Maps) (s : State) (of : Call) → Stands B.stands_for view.old maps →
         Spells maps.current s → IsLawful s → IsBegun s call of →
         Ends B.stands_for view.new maps s (addr_of call.store) meter.new.left
@@ -102,7 +104,7 @@ fn finish<B: Base, M: Modules>(
         (outset_of costs.now s (addr_of call.store) meter.old.left)) result }
     ensures gas { meter.new.left + meter.new.used ≡ meter.old.left + meter.old.used }
     ensures spends { meter.new.left ≤ meter.old.left }
-    ensures unchanged { Turns B.stands_for view.old view.new (λ maps. maps) }
+    ensures unchanged { IsTrue (is_read_only call.store) → Turns B.stands_for view.old view.new (λ maps. maps) }
     ensures layers { stacks.depth view.new ≡ stacks.depth view.old }
 {
     bytes_tell_keys();
@@ -128,7 +130,7 @@ fn begin<B: Base>(
     costs: &Schedule,
 ) -> Result<Step, AllocError>
     requires costs { IsInRange costs.now }
-    requires ready { IsReadyQuery call.old }
+    requires ready { IsReadyCall call.old }
     ensures comes { IfOk result (λ step. (maps : Maps) (s : State) (of : Call) (ask : Asking) (tally : Option Tally) →
         Stands B.stands_for view.old maps → Spells maps.current s → IsBegun s call.old of →
         let o = outset_of costs.now s (addr_of call.old.store) meter.old.left in
@@ -139,7 +141,7 @@ fn begin<B: Base>(
     ensures kept { IsSameScope call.old.store call.new.store × (call.new.prefix ≡ call.old.prefix) }
     ensures gas { meter.new.left + meter.new.used ≡ meter.old.left + meter.old.used }
     ensures spends { meter.new.left ≤ meter.old.left }
-    ensures unchanged { Turns B.stands_for view.old view.new (λ maps. maps) }
+    ensures unchanged { IsTrue (is_read_only call.old.store) → Turns B.stands_for view.old view.new (λ maps. maps) }
     ensures layers { stacks.depth view.new ≡ stacks.depth view.old }
 {
     storages_are_typed();
@@ -175,9 +177,10 @@ fn go_on<B: Base, M: Modules>(
 ) -> Result<Step, QueryStop>
     requires depth { depth < 10 }
     requires costs { IsInRange costs.now }
-    requires lawful { HasLawful (HasCurrent B.stands_for view.old) }
     requires waits { WaitsForAnswer call.old.running }
-    requires kept { IsQueryScope call.old }
+    requires kept { IsScope call.old }
+    requires underway { IsUnderway B.stands_for view.old call.old meter.old.left (M.tally modules.old)
+        costs.now (queries costs.now (9 - depth)) (Step.Query request) }
     ensures comes { (maps : Maps) (s : State) (addr : List ℕ) (of : Call) (o : Outset)
         (before : Option Tally) (called : Called) →
         Spells maps.current s → IsLawful s → IsSetFor addr costs.now call.old of o →
@@ -190,7 +193,7 @@ fn go_on<B: Base, M: Modules>(
     ensures kept { IsSameScope call.old.store call.new.store × (call.new.prefix ≡ call.old.prefix) }
     ensures gas { meter.new.left + meter.new.used ≡ meter.old.left + meter.old.used }
     ensures spends { meter.new.left ≤ meter.old.left }
-    ensures unchanged { Turns B.stands_for view.old view.new (λ maps. maps) }
+    ensures unchanged { IsTrue (is_read_only call.old.store) → Turns B.stands_for view.old view.new (λ maps. maps) }
     ensures layers { stacks.depth view.new ≡ stacks.depth view.old }
 {
     bytes_tell_keys();

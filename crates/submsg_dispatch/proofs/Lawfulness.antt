@@ -11,7 +11,8 @@ use Rattle.chain_records.specs.Records.{PlainContract, PlainFacts}
 use Rattle.chain_records.specs.Changes.{with_code}
 use Rattle.code_registry.specs.Codes.{Pins}
 use Rattle.code_registry.specs.Lawful.{HasLawfulCodes}
-use Rattle.contract_admin.specs.Administration.{changed_in, with_admin}
+use Rattle.contract_admin.specs.Administration.{changed_in, instance_taken, with_admin, with_code_id}
+use Rattle.state_records.specs.Records.{with_contract}
 use Rattle.contract_admin.specs.Lawful.{HasLawfulContracts}
 use Rattle.contract_admin.specs.Laws.{StayLawfulWithCode}
 use Rattle.chain_records.specs.State.{Bytes, Code, State, Spells, addressed_cmp}
@@ -105,6 +106,26 @@ lawful_admin s t addr admin lawful is found = subst IsLawful (sym is) (changed_l
 
 pub admin_facts : (s : State) (addr : List ℕ) (admin : Option (List ℕ)) → (with_admin s addr admin).facts ≡ s.facts
 admin_facts s addr admin = changed_facts s addr (λ c. record c { admin = admin }) (get s.contracts addr)
+
+pub lawful_migrated : (s t : State) (addr : List ℕ) (id : ℕ) → IsLawful s → t ≡ with_code_id s addr id → HasLawfulContracts t → IsLawful t
+lawful_migrated s t addr id lawful is found = subst IsLawful (sym is) (changed_lawful s addr (λ c. record c { code_id = id }) (get s.contracts addr) lawful (subst HasLawfulContracts is found))
+
+pub code_id_facts : (s : State) (addr : List ℕ) (id : ℕ) → (with_code_id s addr id).facts ≡ s.facts
+code_id_facts s addr id = changed_facts s addr (λ c. record c { code_id = id }) (get s.contracts addr)
+
+-- a contract more
+pub lawful_created : (s t : State) (addr : List ℕ) (c : PlainContract) → IsLawful s → t ≡ with_contract s addr c → HasLawfulContracts t → IsLawful t
+lawful_created s t addr c lawful is found = subst IsLawful (sym is) (changed_lawful s addr (λ k. c) (Some c) lawful (subst HasLawfulContracts is found))
+
+-- an instance more
+pub lawful_counted : (s t : State) → IsLawful s → t ≡ instance_taken s → HasLawfulContracts t → IsLawful t
+lawful_counted s t l is found = subst IsLawful (sym is) (record {
+  prefix = l.prefix;
+  authority = l.authority;
+  amounts = record { sums = l.amounts.sums; bounded = l.amounts.bounded; accounts = l.amounts.accounts; supplies = l.amounts.supplies };
+  codes = record { first = l.codes.first; few = l.codes.few; numbered = l.codes.numbered; codes = l.codes.codes; pinned = l.codes.pinned; few_pinned = l.codes.few_pinned };
+  contracts = subst HasLawfulContracts is found;
+})
 
 -- ---- what is known of some state
 

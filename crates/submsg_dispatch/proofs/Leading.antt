@@ -1,8 +1,7 @@
 -- What a call does that goes on where another came to, or where a check was passed.
-use Rattle.std.proofs.Common.{◌≡◌, ℕ, ◌-◌, ◌<◌, ◌≤◌, ◌++◌, Bool, cond, List, [], Option, None, Some, Result, Ok, Err, IfOk, append-nil, refl, sym, ap, ◌∙◌, subst, inl, inr}
+use Rattle.std.proofs.Common.{◌≡◌, ℕ, ◌-◌, ◌<◌, ◌≤◌, ◌++◌, Bool, cond, List, [], Option, None, Some, Result, Ok, Err, IfOk, append-nil, refl, sym, ap, ◌∙◌, subst}
 use Rattle.std.specs.Prelude.{IsErrAnd}
 use Rattle.std.proofs.lemmas.Bool.{lt-ltb, le-ltb}
-use Rattle.std.proofs.lemmas.Bool.Decides.{eqb_tells}
 use Rattle.std.specs.declared.alloc.AllocError.{AllocError}
 use Rattle.kv_layers.specs.declared.layers.Layers.{Layers}
 use Rattle.kv_layers.specs.Layers.{Stands}
@@ -16,8 +15,8 @@ use Rattle.chain_addr.specs.Address.{address_of}
 use Rattle.submsg_dispatch.specs.declared.stop.HandleStop.{HandleStop}
 use Rattle.submsg_dispatch.specs.declared.stop.HandleStop.TheVariants.{Failed, OutOfGas, NoMemory}
 use Rattle.submsg_dispatch.specs.Parts.{Part, Ran, kept, failed, out_of_gas, done, fails, charge, or_fails, goes_on, ◌>>=◌}
-use Rattle.submsg_dispatch.specs.Failures.{address_bad, too_deep}
-use Rattle.submsg_dispatch.specs.Messages.{address_in, within_depth}
+use Rattle.submsg_dispatch.specs.Failures.{address_bad}
+use Rattle.submsg_dispatch.specs.Messages.{address_in}
 use Rattle.submsg_dispatch.specs.Reaching.{Leaves, Comes, UnlessNoMemory, Leads}
 use Rattle.submsg_dispatch.specs.Under.{stop_from, Fails, Misses, StopsAt, LeadsUnder}
 
@@ -51,15 +50,6 @@ finds_passes failure wanted x k s left found = ap (λ o. (or_fails failure o >>=
 
 pub finds_stops : {A C : Type 0} (failure : Failure) (wanted : Option A) (k : A → Part C) (s : State) (left : ℕ) → wanted ≡ None → (or_fails failure wanted >>= k) s left ≡ fails {A = C} failure s left
 finds_stops failure wanted k s left none = ap (λ o. (or_fails failure o >>= k) s left) none
-
-abbrev deep : {C : Type 0} → (Unit {0} → Part C) → State → ℕ → Bool → Ran C
-deep k s left b = (cond b (fails {A = Unit {0}} too_deep) (done tt) >>= k) s left
-
-pub depth_passes : {C : Type 0} (depth left : ℕ) (k : Unit {0} → Part C) (s : State) → (depth ≡ 32 → ⊥) → (within_depth depth >>= k) s left ≡ k tt s left
-depth_passes depth left k s other = elim (eqb_tells depth 32) [ inl p ↦ absurd (other p.1) | inr p ↦ ap (deep k s left) p.0 ]
-
-pub depth_stops : {C : Type 0} (depth left : ℕ) (k : Unit {0} → Part C) (s : State) → depth ≡ 32 → (within_depth depth >>= k) s left ≡ fails {A = C} too_deep s left
-depth_stops depth left k s is = ap (λ (n : ℕ). (within_depth n >>= k) s left) is
 
 -- ---- what calls do
 
@@ -129,14 +119,6 @@ module _ {B : Type 0} {S : B → Bytes → Type 0} {prefix : List ℕ} where
       alike (address_in text >>= k) (fails {A = C} address_bad) (λ s same. ap (λ (p : List ℕ). (or_fails address_bad (address_of p text) >>= k) s l) same ∙ finds_stops address_bad (address_of prefix text) k s l miss.0) (fails_so tally (Failed found) address_bad miss.1)
   no_address tally OutOfGas text k miss = absurd miss
   no_address tally NoMemory text k miss = no_memory
-
-  pub after_depth : {X C : Type 0} {old new : Layers B} {before after : Option Tally} {l m : ℕ} {view : X → C} {result : Result X HandleStop} (depth : ℕ) (k : Unit {0} → Part C) → (depth ≡ 32 → ⊥)
-      → LeadsUnder prefix S old new before after l m (k tt) view result → LeadsUnder prefix S old new before after l m (within_depth depth >>= k) view result
-  after_depth {l = l} depth k other leads = alike (within_depth depth >>= k) (k tt) (λ s same. depth_passes depth l k s other) leads
-
-  pub at_deepest : {X C : Type 0} {layers : Layers B} {l : ℕ} {view : X → C} (tally : Option Tally) (stop : HandleStop) (depth : ℕ) (k : Unit {0} → Part C) → depth ≡ 32 → Fails stop too_deep
-      → LeadsUnder prefix S layers layers tally tally l l (within_depth depth >>= k) view (Err stop)
-  at_deepest {C = C} {l = l} tally stop depth k is fail = alike (within_depth depth >>= k) (fails {A = C} too_deep) (λ s same. depth_stops depth l k s is) (fails_so tally stop too_deep fail)
 
   -- ---- one part after another
 

@@ -1,7 +1,14 @@
 pub mod Leading
 pub mod Lawfulness
+pub mod Chaining
+pub mod Nesting
+pub mod Settling
+pub mod Storing
+pub mod Entering
+pub mod Seeing
 pub mod Banking
 pub mod Changing
+pub mod Making
 pub mod Listing
 pub mod Refusing
 pub mod Loops

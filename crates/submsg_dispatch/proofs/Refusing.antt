@@ -22,41 +22,24 @@ use Rattle.submsg_dispatch.specs.declared.stop.HandleStop.{HandleStop}
 use Rattle.submsg_dispatch.specs.declared.stop.HandleStop.TheVariants.{Failed, OutOfGas, NoMemory}
 use Rattle.submsg_dispatch.specs.Parts.{Part, fails}
 use Rattle.submsg_dispatch.specs.Failures.{unsupported, message_bad}
-use Rattle.submsg_dispatch.specs.Messages.{Outcome, by_kind}
-use Rattle.submsg_dispatch.specs.Transactions.{unbuilt, tx_handled, read_and_handled}
+use Rattle.submsg_dispatch.specs.Messages.{Outcome}
+use Rattle.submsg_dispatch.specs.Submessages.{Level, by_kind}
+use Rattle.submsg_dispatch.specs.Transactions.{tx_handled, read_and_handled}
 use Rattle.submsg_dispatch.specs.Views.{outcome_view}
-use Rattle.submsg_dispatch.specs.Under.{stop_from, MissesForm, StopsAt, LeadsUnder, instantiate_kind}
-use Rattle.submsg_dispatch.proofs.Leading.{fails_from, fails_so, stops, no_memory, after_found, not_found}
-
-pub instantiates : (costs : Schedule) (sender : List ℕ) (admin : Option (List ℕ)) (id : ℕ) (msg : List ℕ) (funds : List RawCoin) (label : List ℕ) (salt : Option (List ℕ)) → by_kind costs sender (instantiate admin id msg funds label salt) ≡ fails (unsupported (instantiate_kind salt))
-instantiates costs sender admin id msg funds label None = refl
-instantiates costs sender admin id msg funds label (Some salt) = refl
+use Rattle.submsg_dispatch.specs.Under.{MissesForm, LeadsUnder, LeadsOn}
+use Rattle.submsg_dispatch.proofs.Leading.{no_memory, after_found, not_found}
 
 module _ {B : Type 0} {S : B → Bytes → Type 0} {prefix : List ℕ} where
   -- a message of this form
-  pub by_sort : {old new : Layers B} {before after : Option Tally} {l m : ℕ} {result : Result outcome_type.Outcome HandleStop} (part : Part Outcome) (costs : Schedule) (sender : List ℕ) (msg form : cosmos_type.CosmosMsg) → msg ≡ form → by_kind costs sender (cosmos_view form) ≡ part
-      → LeadsUnder prefix S old new before after l m part outcome_view result → LeadsUnder prefix S old new before after l m (by_kind costs sender (cosmos_view msg)) outcome_view result
-  by_sort {old = old} {new = new} {before = before} {after = after} {l = l} {m = m} {result = result} part costs sender msg form is does leads =
-      subst (λ (p : Part Outcome). LeadsUnder prefix S old new before after l m p outcome_view result) (sym (ap (λ x. by_kind costs sender (cosmos_view x)) is ∙ does)) leads
+  pub by_sort : {old new : Layers B} {before after : Option Tally} {l m : ℕ} {result : Result outcome_type.Outcome HandleStop} (part : Part Outcome) (lvl : Level) (costs : Schedule) (index : ℕ) (sender : List ℕ) (msg form : cosmos_type.CosmosMsg) → msg ≡ form → by_kind lvl costs index prefix sender (cosmos_view form) ≡ part
+      → LeadsOn prefix S old new before after l m part outcome_view result → LeadsOn prefix S old new before after l m (by_kind lvl costs index prefix sender (cosmos_view msg)) outcome_view result
+  by_sort {old = old} {new = new} {before = before} {after = after} {l = l} {m = m} {result = result} part lvl costs index sender msg form is does leads =
+      subst (λ (p : Part Outcome). LeadsOn prefix S old new before after l m p outcome_view result) (sym (ap (λ x. by_kind lvl costs index prefix sender (cosmos_view x)) is ∙ does)) leads
 
   pub tx_sort : {old new : Layers B} {before after : Option Tally} {l m : ℕ} {result : Result outcome_type.Outcome HandleStop} (part : Part Outcome) (costs : Schedule) (sender : List ℕ) (index : ℕ) (msg form : tx_msg_type.TxMsg) → msg ≡ form → tx_handled costs sender index (tx_msg_view form) ≡ part
       → LeadsUnder prefix S old new before after l m part outcome_view result → LeadsUnder prefix S old new before after l m (tx_handled costs sender index (tx_msg_view msg)) outcome_view result
   tx_sort {old = old} {new = new} {before = before} {after = after} {l = l} {m = m} {result = result} part costs sender index msg form is does leads =
       subst (λ (p : Part Outcome). LeadsUnder prefix S old new before after l m p outcome_view result) (sym (ap (λ x. tx_handled costs sender index (tx_msg_view x)) is ∙ does)) leads
-
-  -- a form that isn't built
-  pub by_form : {layers : Layers B} {l : ℕ} (tally : Option Tally) (stop : HandleStop) (made : Result failure_type.Failure AllocError) (costs : Schedule) (sender kind : List ℕ) (msg form : cosmos_type.CosmosMsg) → msg ≡ form → by_kind costs sender (cosmos_view form) ≡ fails (unsupported kind)
-      → stop ≡ stop_from made → IfOk made (λ f. failure_view f ≡ unsupported kind) → LeadsUnder prefix S layers layers tally tally l l (by_kind costs sender (cosmos_view msg)) outcome_view (Err stop)
-  by_form {layers = layers} {l = l} tally stop made costs sender kind msg form is refuses stop_is ok =
-      subst (λ (part : Part Outcome). LeadsUnder prefix S layers layers tally tally l l part outcome_view (Err stop)) (sym (ap (λ m. by_kind costs sender (cosmos_view m)) is ∙ refuses))
-      (fails_so tally stop (unsupported kind) (fails_from stop made (unsupported kind) stop_is ok))
-
-  -- a message that is one of contracts too, and one that isn't built
-  pub tx_form : {layers : Layers B} {l m : ℕ} (tally : Option Tally) (stop : HandleStop) (costs : Schedule) (sender kind : List ℕ) (index : ℕ) (msg form : tx_msg_type.TxMsg) → msg ≡ form → tx_handled costs sender index (tx_msg_view form) ≡ unbuilt costs kind
-      → StopsAt stop l m (unbuilt costs kind) → LeadsUnder prefix S layers layers tally tally l m (tx_handled costs sender index (tx_msg_view msg)) outcome_view (Err stop)
-  tx_form {layers = layers} {l = l} {m = m} tally stop costs sender kind index msg form is unbuilt_is at =
-      subst (λ (part : Part Outcome). LeadsUnder prefix S layers layers tally tally l m part outcome_view (Err stop)) (sym (ap (λ x. tx_handled costs sender index (tx_msg_view x)) is ∙ unbuilt_is))
-      (stops tally stop (unbuilt costs kind) at)
 
   -- a value that is a message, and one that isn't
   pub after_form : {old new : Layers B} {before after : Option Tally} {l m : ℕ} {result : Result outcome_type.Outcome HandleStop} (costs : Schedule) (sender : List ℕ) (index : ℕ) (d : Data) (msg : TxMsg) → tx_msg_of d ≡ Ok msg

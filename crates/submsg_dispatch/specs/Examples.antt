@@ -10,7 +10,7 @@ use Rattle.chain_msgs.specs.Plain.{Tx}
 use Rattle.chain_msgs.specs.Forms.{tx_msg_of, named_tx_msg, named_cosmos, bank_of, named_bank, burn_of}
 use Rattle.bank_ledger.specs.Minted.{opening}
 use Rattle.submsg_dispatch.specs.Failures.{address_bad, message_bad, no_messages, out_of_gas, unsupported}
-use Rattle.submsg_dispatch.specs.Messages.{handled}
+use Rattle.submsg_dispatch.specs.Submessages.{level}
 use Rattle.submsg_dispatch.specs.Transactions.{tx, failed_result}
 
 -- a chain in which nobody has anything
@@ -42,10 +42,10 @@ no_form = refl
 
 -- a kind that the chain doesn't know is looked at after it is paid
 unknown_kind : (tx standard_schedule bare (sent_by one 5000 (under (codes "staking") (array no_items) ∷ [])) 0).result ≡ failed_result (unsupported (codes "staking")) 1000
-unfolding tx handled tx_msg_of named_tx_msg named_cosmos address_of fault_of groups_of step
+unfolding tx level tx_msg_of named_tx_msg named_cosmos address_of fault_of groups_of step
 unknown_kind = refl
 
 -- of too little gas all is used
 too_little : (tx standard_schedule bare (sent_by one 999 (under (codes "staking") (array no_items) ∷ [])) 0).result ≡ failed_result out_of_gas 999
-unfolding tx handled tx_msg_of named_tx_msg named_cosmos address_of fault_of groups_of step
+unfolding tx level tx_msg_of named_tx_msg named_cosmos address_of fault_of groups_of step
 too_little = refl

@@ -48,6 +48,9 @@ no_messages = sdk kinds.no_messages 18 (codes "NoMessages")
 abbrev pub label_bad : Failure
 label_bad = sdk kinds.label_bad 18 (codes "LabelBad")
 
+abbrev pub salt_bad : Failure
+salt_bad = sdk kinds.salt_bad 18 (codes "SaltBad")
+
 -- with the gate's text
 abbrev pub store_refused : List ℕ → Failure
 store_refused text = wasm (kinds.store_refused text) 2 (codes "StoreRefused " ++ text)

@@ -2,9 +2,12 @@ pub mod Parts
 pub mod Failures
 pub mod Events
 pub mod Messages
+pub mod Calling
+pub mod Submessages
 pub mod Transactions
 pub mod Blocks
 pub mod Views
 pub mod Reaching
 pub mod Under
+pub mod Stages
 pub mod Examples

@@ -1,5 +1,5 @@
--- What a message does, by its kind: its checks in their order, what it costs, and what it changes.
-use Rattle.std.specs.Prelude.{ℕ, ◌==◌, List, [], ◌∷◌, length, map, codes, Option, None, Some, option_map, if◌then◌else◌}
+-- What messages do that call no contract: their checks in their order, what they cost, and what they change.
+use Rattle.std.specs.Prelude.{ℕ, List, [], ◌∷◌, length, map, codes, Option, None, Some, option_map}
 use Rattle.std.specs.Result.{result_ok}
 use Rattle.coin_amounts.specs.Plain.{Coin, RawCoin}
 use Rattle.coin_amounts.specs.Coins.{coins_of}
@@ -12,9 +12,8 @@ use Rattle.bank_ledger.specs.Accounts.{balance, sent, burned}
 use Rattle.code_registry.specs.Codes.{stored, pinned, unpinned, store_refusal, pin_refusal, unpin_refusal}
 use Rattle.contract_admin.specs.Administration.{change_refusal, with_admin}
 use Rattle.chain_msgs.specs.Plain.{Event}
-use Rattle.chain_msgs.specs.Messages.{CosmosMsg, bank_send, bank_burn, execute, instantiate, migrate, update_admin, clear_admin, other}
 use Rattle.submsg_dispatch.specs.Parts.{Part, done, fails, charge, or_fails, stops_if, becomes, reads, ◌>>=◌}
-use Rattle.submsg_dispatch.specs.Failures.{address_bad, coins_bad, not_enough, too_deep, unsupported, code_failure, contract_failure}
+use Rattle.submsg_dispatch.specs.Failures.{address_bad, coins_bad, not_enough, code_failure, contract_failure}
 use Rattle.submsg_dispatch.specs.Events.{transfer, burn, code_stored, of_code}
 
 -- what a message that was done gives: its events, its data, and the data that a reply to it gets
@@ -145,31 +144,3 @@ unpin_codes sender ids = do
   _ ← reads (λ s. stops_if (option_map code_failure (unpin_refusal s sender ids)))
   _ ← becomes (λ s. unpinned s ids)
   done (only_events (map (of_code (codes "unpin_code")) ids))
-
--- ---- every message
-
--- by its kind; what isn't there yet is unsupported, by the name of its form
-abbrev pub by_kind : Schedule → List ℕ → CosmosMsg → Part Outcome
-by_kind costs sender (bank_send to amount) = send_coins costs sender to amount
-by_kind costs sender (bank_burn amount) = burn_coins costs sender amount
-by_kind costs sender (execute contract msg funds) = fails (unsupported (codes "wasm.execute"))
-by_kind costs sender (instantiate admin code_id msg funds label None) = fails (unsupported (codes "wasm.instantiate"))
-by_kind costs sender (instantiate admin code_id msg funds label (Some salt)) = fails (unsupported (codes "wasm.instantiate2"))
-by_kind costs sender (migrate contract new_code_id msg) = fails (unsupported (codes "wasm.migrate"))
-by_kind costs sender (update_admin contract admin) = change_admin sender contract admin
-by_kind costs sender (clear_admin contract) = drop_admin sender contract
-by_kind costs sender (other kind) = fails (unsupported kind)
-
--- messages nest at most so deep
-abbrev pub deepest : ℕ
-deepest = 32
-
-abbrev pub within_depth : ℕ → Part (Unit {0})
-within_depth depth = if depth == deepest then fails too_deep else done tt
-
--- a message of this sender at this depth, in the transaction of this index
-unfoldable pub handled : Schedule → List ℕ → CosmosMsg → ℕ → ℕ → Part Outcome
-handled costs sender msg index depth = do
-  _ ← charge costs.message
-  _ ← within_depth depth
-  by_kind costs sender msg

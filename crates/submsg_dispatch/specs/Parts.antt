@@ -1,7 +1,8 @@
 -- Parts of a transaction's work, one after the other on one state and one amount of gas.
-use Rattle.std.specs.Prelude.{ℕ, ◌-◌, List, [], ◌++◌, Option, None, Some, nat_lt, if◌then◌else◌}
+use Rattle.std.specs.Prelude.{ℕ, ◌+◌, ◌-◌, min, Bool, false, List, [], ◌++◌, Option, None, Some, Result, Ok, Err, nat_le, nat_lt, if◌then◌else◌}
 use Rattle.chain_msgs.specs.Plain.{Failure}
 use Rattle.chain_records.specs.State.{State}
+use Rattle.submsg_dispatch.specs.Failures as failures
 
 -- how a part ends: with a state and what it gives, with a failure, or without gas
 pub data Ended (A : Type 0) : Type 0 where
@@ -41,6 +42,15 @@ abbrev pub stops_if : Option Failure → Part (Unit {0})
 stops_if None = done tt
 stops_if (Some failure) = fails failure
 
+-- nothing where the test holds, and else a failure
+abbrev pub needs : Bool → Failure → Part (Unit {0})
+needs holds failure = if holds then done tt else fails failure
+
+-- what there is, or the failure that there is in its place
+abbrev pub or_fails_with : {A : Type 0} → Result A Failure → Part A
+or_fails_with (Ok x) = done x
+or_fails_with (Err failure) = fails failure
+
 -- the state becomes what a function makes of it
 abbrev pub becomes : (State → State) → Part (Unit {0})
 becomes step s left = record { ended = kept (step s) tt; left = left; fetched = [] }
@@ -62,3 +72,28 @@ abbrev pub ◌>>=◌ : {A B : Type 0} → Part A → (A → Part B) → Part B
 (part >>= next) s left =
     let r = part s left in
     goes_on next r.ended r.left r.fetched
+
+-- ---- a part within a limit of gas
+
+-- the smaller of the limit and the gas that is left
+abbrev pub share : Option ℕ → ℕ → ℕ
+share None left = left
+share (Some limit) left = min limit left
+
+-- a limit counts where it is at most the gas that is left
+abbrev pub counts : Option ℕ → ℕ → Bool
+counts None left = false
+counts (Some limit) left = nat_le limit left
+
+-- A failure is caught, and the state is as before. The end of the gas is a failure where the limit counts, and else passes up.
+abbrev pub caught_end : {A : Type 0} → Bool → State → Ended A → Ended (Result A Failure)
+caught_end counting s (kept t x) = kept t (Ok x)
+caught_end counting s (failed failure) = kept s (Err failure)
+caught_end counting s out_of_gas = if counting then kept s (Err failures.out_of_gas) else out_of_gas
+
+abbrev pub caught : {A : Type 0} → Bool → State → ℕ → Ran A → Ran (Result A Failure)
+caught counting s beside r = record { ended = caught_end counting s r.ended; left = beside + r.left; fetched = r.fetched }
+
+-- the part on its share of the gas, whatever comes of it
+unfoldable pub attempt : {A : Type 0} → Option ℕ → Part A → Part (Result A Failure)
+attempt limit part s left = caught (counts limit left) s (left - share limit left) (part s (share limit left))

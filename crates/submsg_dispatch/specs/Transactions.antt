@@ -1,5 +1,5 @@
 -- What a transaction does: its checks, its messages in order on one amount of gas, and its result.
-use Rattle.std.specs.Prelude.{ℕ, ◌-◌, List, [], ◌∷◌, map, codes, Option, None, Some}
+use Rattle.std.specs.Prelude.{ℕ, ◌-◌, List, [], ◌∷◌, map, Option, None, Some}
 use Rattle.std.specs.List.{flat_map}
 use Rattle.std.specs.Result.{result_ok}
 use Rattle.serde_json.specs.Data.{Data}
@@ -10,16 +10,13 @@ use Rattle.chain_msgs.specs.Plain.{Failure, Tx, TxResult}
 use Rattle.chain_msgs.specs.Messages.{TxMsg, cosmos, store_code, pin, unpin, sudo}
 use Rattle.chain_msgs.specs.Forms.{tx_msg_of}
 use Rattle.submsg_dispatch.specs.Parts.{Part, Ended, kept, failed, out_of_gas, Ran, done, fails, charge, or_fails, ◌>>=◌}
-use Rattle.submsg_dispatch.specs.Failures.{address_bad, message_bad, no_messages, unsupported}
+use Rattle.submsg_dispatch.specs.Failures.{address_bad, message_bad, no_messages}
 use Rattle.submsg_dispatch.specs.Failures as failures
-use Rattle.submsg_dispatch.specs.Messages.{Outcome, handled, pin_codes, unpin_codes}
+use Rattle.submsg_dispatch.specs.Messages.{Outcome, pin_codes, unpin_codes}
+use Rattle.submsg_dispatch.specs.Submessages.{handled, commanded}
 use Rattle.submsg_dispatch.specs.Messages as messages
 
 -- ---- messages
-
--- one that isn't there yet, by the name of its form
-abbrev pub unbuilt : Schedule → List ℕ → Part Outcome
-unbuilt costs kind = charge costs.message >>= λ _. fails (unsupported kind)
 
 -- one that is paid before all else that is looked at
 abbrev pub paid : Schedule → Part Outcome → Part Outcome
@@ -30,7 +27,7 @@ tx_handled costs sender index (cosmos msg) = handled costs sender msg index 0
 tx_handled costs sender index (store_code code allow) = paid costs (messages.store_code costs sender code allow)
 tx_handled costs sender index (pin ids) = paid costs (pin_codes sender ids)
 tx_handled costs sender index (unpin ids) = paid costs (unpin_codes sender ids)
-tx_handled costs sender index (sudo contract msg) = unbuilt costs (codes "sudo")
+tx_handled costs sender index (sudo contract msg) = paid costs (commanded costs sender index contract msg)
 
 -- a message's form is looked at when its turn comes, and before it is paid
 abbrev pub read_and_handled : Schedule → List ℕ → ℕ → Data → Part Outcome

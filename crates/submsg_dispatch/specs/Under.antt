@@ -28,6 +28,7 @@ use Rattle.chain_msgs.specs.declared.event.Event as event_type
 use Rattle.chain_msgs.specs.declared.failure.Failure as failure_type
 use Rattle.chain_msgs.specs.Plain.{Event, event_view, Failure, failure_view, Tx, TxResult}
 use Rattle.gas_meter.specs.declared.schedule.Schedule.{Schedule}
+pub use Rattle.query_router.specs.Lawful.{HasLawfulUnder}
 use Rattle.query_router.specs.Lawful.{IsLawful}
 use Rattle.submsg_dispatch.specs.declared.outcome.Outcome as outcome_type
 use Rattle.submsg_dispatch.specs.declared.stop.HandleStop.{HandleStop}
@@ -134,16 +135,7 @@ burns_told from coins = burns from coins >>= λ _. reads (λ s. done (only_event
 abbrev pub admin_put : List ℕ → List ℕ → Option (List ℕ) → Part Outcome
 admin_put sender addr admin = may_change sender addr >>= λ _. becomes (λ s. with_admin s addr admin) >>= λ _. done (only_events [])
 
--- the name of the form of a message that makes a contract, which has a salt or none
-abbrev pub instantiate_kind : Option (List ℕ) → List ℕ
-instantiate_kind None = codes "wasm.instantiate"
-instantiate_kind (Some salt) = codes "wasm.instantiate2"
-
 -- ---- what calls do
-
--- one of the maps spells a lawful state with this prefix
-abbrev pub HasLawfulUnder : List ℕ → (Bytes → Type 0) → Type 0
-HasLawfulUnder prefix S = OfSome S (λ s. IsLawful s × (s.facts.prefix ≡ prefix))
 
 -- for each map and lawful state with this prefix that the layers stood for
 pub record LeadsUnder {B X A : Type 0} (prefix : List ℕ) (S : B → Bytes → Type 0) (old new : Layers B) (before after : Option Tally) (left_before left_after : ℕ) (part : Part A) (view : X → A) (result : Result X HandleStop) : Type 0 where

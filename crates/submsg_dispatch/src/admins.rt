@@ -113,7 +113,7 @@ fn unless_refused<B: Base>(
 }
 
 /// The stop of a message on the contract with this address.
-fn contract_stop(alloc: Global, prefix: &str, addr: &[u8], stop: AdminStop) -> HandleStop
+pub(crate) fn contract_stop(alloc: Global, prefix: &str, addr: &[u8], stop: AdminStop) -> HandleStop
     requires { IsPrefix prefix.now }
     ensures { TellsContract prefix.now addr.now stop result }
 {

@@ -49,6 +49,7 @@ fn run_all<B: Base, M: Modules>(
     txs: &[Tx],
     costs: &Schedule,
 ) -> Result<Vec<TxResult>, AllocError>
+    requires costs { IsInRange costs.now }
     requires lawful { HasLawfulUnder prefix.now (HasCurrent B.stands_for layers.old) }
     requires few { length txs.now < 2 ^ 32 }
     ensures ran { IfOk result (λ results. RunsAllUnder prefix.now B.stands_for

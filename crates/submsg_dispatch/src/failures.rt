@@ -124,6 +124,12 @@ pub(crate) fn label_bad(alloc: Global) -> Result<Failure, AllocError>
     sdk(alloc, FailKind::LabelBad, 18, "LabelBad")
 }
 
+pub(crate) fn salt_bad(alloc: Global) -> Result<Failure, AllocError>
+    ensures { IfOk result (λ failure. failure_view failure ≡ plain.salt_bad) }
+{
+    sdk(alloc, FailKind::SaltBad, 18, "SaltBad")
+}
+
 /// The gate refuses a code, for this reason.
 pub(crate) fn store_refused(alloc: Global, text: String) -> Result<Failure, AllocError>
     ensures { IfOk result (λ failure. failure_view failure

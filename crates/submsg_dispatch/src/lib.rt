@@ -5,16 +5,26 @@
 mod admins;
 mod bank;
 mod blocks;
+mod called;
+mod calls;
 mod charges;
 mod codes;
+mod commands;
+mod creation;
 mod events;
+mod execution;
 mod failures;
+mod funds;
+mod given;
+mod layer;
 mod message;
+mod migration;
 mod outcome;
 mod reading;
 mod results;
 mod stop;
 mod transaction;
+mod tree;
 mod turns;
 
 pub use blocks::run_txs;

@@ -58,6 +58,7 @@ pub(crate) fn run_under<B: Base, M: Modules>(
     index: u32,
     costs: &Schedule,
 ) -> Result<TxResult, AllocError>
+    requires costs { IsInRange costs.now }
     requires lawful { HasLawfulUnder prefix.now (HasCurrent B.stands_for layers.old) }
     ensures ran { IfOk result (λ answer. RunsUnder prefix.now B.stands_for layers.old layers.new
         (M.tally modules.old) (M.tally modules.new)
@@ -85,6 +86,7 @@ fn run_from<B: Base, M: Modules>(
     costs: &Schedule,
 ) -> Result<TxResult, AllocError>
     requires sender { IsAddress sender.now }
+    requires costs { IsInRange costs.now }
     requires lawful { HasLawfulUnder prefix.now (HasCurrent B.stands_for layers.old) }
     ensures ran { IfOk result (λ answer. RunsUnder prefix.now B.stands_for layers.old layers.new
         (M.tally modules.old) (M.tally modules.new)
@@ -112,6 +114,7 @@ fn run_msgs<B: Base, M: Modules>(
 ) -> Result<TxResult, AllocError>
     requires some { 0 < vec_len tx.now.msgs }
     requires sender { IsAddress sender.now }
+    requires costs { IsInRange costs.now }
     requires lawful { HasLawfulUnder prefix.now (HasCurrent B.stands_for layers.old) }
     ensures ran { IfOk result (λ answer. RunsUnder prefix.now B.stands_for layers.old layers.new
         (M.tally modules.old) (M.tally modules.new)

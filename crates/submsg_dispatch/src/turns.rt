@@ -6,19 +6,23 @@ ghost use Rattle.kv_layers.specs.Layers as stacks;
 ghost use Rattle.kv_layers.specs.Layers.{HasCurrent};
 ghost use Rattle.chain_records.specs.Keys.{IsAddress};
 ghost use Rattle.chain_msgs.specs.Messages.{tx_msg_view};
+ghost use Rattle.gas_meter.specs.Ranges.{IsInRange};
 ghost use Rattle.gatekeeper.specs.Cache.{Tally};
 ghost use Rattle.query_router.specs.Lawful.{HasLawful};
 ghost use Rattle.submsg_dispatch.specs.Messages.{store_code, pin_codes, unpin_codes};
-ghost use Rattle.submsg_dispatch.specs.Transactions.{unbuilt, paid, tx_handled, read_and_handled, all_handled};
-ghost use Rattle.submsg_dispatch.specs.Under.{LeadsUnder, LeadsOn, HasLawfulUnder, MissesForm, StopsAt, outcomes_view};
+ghost use Rattle.submsg_dispatch.specs.Submessages.{commanded};
+ghost use Rattle.submsg_dispatch.specs.Transactions.{paid, tx_handled, read_and_handled, all_handled};
+ghost use Rattle.submsg_dispatch.specs.Under.{LeadsUnder, LeadsOn, HasLawfulUnder, MissesForm, outcomes_view};
 ghost use Rattle.submsg_dispatch.specs.Views.{outcome_view};
 
 use crate::charges::charge_message;
 use crate::codes::{pin_codes, store_code, unpin_codes};
-use crate::failures::{message_bad, stop_of, unsupported};
-use crate::message::handle_under;
+use crate::commands::command;
+use crate::failures::{message_bad, stop_of};
+use crate::layer::close_message;
 use crate::outcome::Outcome;
 use crate::stop::HandleStop;
+use crate::tree::{handle_under, respond};
 use chain_msgs::{TxMsg, read_tx_msg};
 use gas_meter::{Meter, Schedule};
 use gatekeeper::{Modules, fetches_join};
@@ -26,17 +30,6 @@ use json_shapes::ShapeStop;
 use kv_layers::{Base, Layers};
 use serde_json::Value;
 use std::alloc::Global;
-
-/// Why a message of this form is not done, once it is paid.
-fn unbuilt(alloc: Global, kind: &str, meter: &mut Meter, costs: &Schedule) -> HandleStop
-    ensures stop { StopsAt result meter.old.left meter.new.left (unbuilt costs.now kind.now) }
-    ensures gas { meter.new.left + meter.new.used ≡ meter.old.left + meter.old.used }
-{
-    match charge_message(meter, costs) {
-        Ok(()) => stop_of(unsupported(alloc, kind)),
-        Err(stop) => stop,
-    }
-}
 
 /// Charges a message that stores a code, and does it.
 fn store_paid<B: Base>(
@@ -103,6 +96,67 @@ fn unpin_paid<B: Base>(
     unpin_codes(alloc, layers, sender, ids)
 }
 
+/// Has the authority call a contract, and does the submessages of that.
+fn obey<B: Base, M: Modules>(
+    alloc: Global,
+    layers: &mut Layers<B>,
+    modules: &mut M,
+    prefix: &str,
+    sender: &[u8],
+    contract: &str,
+    msg: &[u8],
+    index: u32,
+    meter: &mut Meter,
+    costs: &Schedule,
+) -> Result<Outcome, HandleStop>
+    requires sender { IsAddress sender.now }
+    requires costs { IsInRange costs.now }
+    requires lawful { HasLawfulUnder prefix.now (HasCurrent B.stands_for layers.old) }
+    ensures leads { LeadsOn prefix.now B.stands_for layers.old layers.new
+        (M.tally modules.old) (M.tally modules.new) meter.old.left meter.new.left
+        (commanded costs.now sender.now index contract.now msg.now) outcome_view result }
+    ensures gas { meter.new.left + meter.new.used ≡ meter.old.left + meter.old.used }
+    ensures layers { stacks.depth layers.new ≡ stacks.depth layers.old }
+{
+    fetches_join();
+    let called = command(
+        alloc, layers, modules, prefix, sender, contract, msg, index, meter, costs,
+    )?;
+    respond(
+        alloc, layers, modules, prefix, called, index, meter, costs, 1,
+    )
+}
+
+/// Charges a `sudo`, and does it in a layer of its own.
+fn sudo_paid<B: Base, M: Modules>(
+    alloc: Global,
+    layers: &mut Layers<B>,
+    modules: &mut M,
+    prefix: &str,
+    sender: &[u8],
+    contract: &str,
+    msg: &[u8],
+    index: u32,
+    meter: &mut Meter,
+    costs: &Schedule,
+) -> Result<Outcome, HandleStop>
+    requires sender { IsAddress sender.now }
+    requires costs { IsInRange costs.now }
+    requires lawful { HasLawfulUnder prefix.now (HasCurrent B.stands_for layers.old) }
+    ensures leads { LeadsUnder prefix.now B.stands_for layers.old layers.new
+        (M.tally modules.old) (M.tally modules.new) meter.old.left meter.new.left
+        (paid costs.now (commanded costs.now sender.now index contract.now msg.now)) outcome_view result }
+    ensures gas { meter.new.left + meter.new.used ≡ meter.old.left + meter.old.used }
+    ensures layers { stacks.depth layers.new ≡ stacks.depth layers.old }
+{
+    charge_message(meter, costs)?;
+    layers.push_layer(alloc)?;
+    let done = obey(
+        alloc, layers, modules, prefix, sender, contract, msg, index, meter, costs,
+    );
+    close_message(alloc, layers, done)
+}
+
 /// Does a message of a transaction.
 fn handle_tx_msg<B: Base, M: Modules>(
     alloc: Global,
@@ -116,6 +170,7 @@ fn handle_tx_msg<B: Base, M: Modules>(
     costs: &Schedule,
 ) -> Result<Outcome, HandleStop>
     requires sender { IsAddress sender.now }
+    requires costs { IsInRange costs.now }
     requires lawful { HasLawfulUnder prefix.now (HasCurrent B.stands_for layers.old) }
     ensures leads { LeadsUnder prefix.now B.stands_for layers.old layers.new
         (M.tally modules.old) (M.tally modules.new) meter.old.left meter.new.left
@@ -132,7 +187,9 @@ fn handle_tx_msg<B: Base, M: Modules>(
         ),
         TxMsg::Pin { ids } => pin_paid(alloc, layers, sender, &ids, meter, costs),
         TxMsg::Unpin { ids } => unpin_paid(alloc, layers, sender, &ids, meter, costs),
-        TxMsg::Sudo { .. } => Err(unbuilt(alloc, "sudo", meter, costs)),
+        TxMsg::Sudo { contract, msg } => sudo_paid(
+            alloc, layers, modules, prefix, sender, &contract, &msg, index, meter, costs,
+        ),
     }
 }
 
@@ -159,6 +216,7 @@ fn read_and_handle<B: Base, M: Modules>(
     costs: &Schedule,
 ) -> Result<Outcome, HandleStop>
     requires sender { IsAddress sender.now }
+    requires costs { IsInRange costs.now }
     requires lawful { HasLawfulUnder prefix.now (HasCurrent B.stands_for layers.old) }
     ensures leads { LeadsUnder prefix.now B.stands_for layers.old layers.new
         (M.tally modules.old) (M.tally modules.new) meter.old.left meter.new.left
@@ -187,6 +245,7 @@ pub(crate) fn handle_all<B: Base, M: Modules>(
     costs: &Schedule,
 ) -> Result<Vec<Outcome>, HandleStop>
     requires sender { IsAddress sender.now }
+    requires costs { IsInRange costs.now }
     requires lawful { HasLawfulUnder prefix.now (HasCurrent B.stands_for layers.old) }
     ensures leads { LeadsOn prefix.now B.stands_for layers.old layers.new
         (M.tally modules.old) (M.tally modules.new) meter.old.left meter.new.left

@@ -1,9 +1,10 @@
+use Rattle.std.specs.Prelude.{IsTrue}
 use Rattle.std.proofs.Common.{◌≡◌, ℕ, ◌+◌, ◌-◌, ◌*◌, ◌≤◌}
 use Rattle.chain_records.specs.State.{State, Spells}
 use Rattle.kv_layers.specs.Layers.{Stands, Turns, HasCurrent}
 use Rattle.kv_layers.specs.Layers as stacks
 use Rattle.kv_layers.specs.Maps.{Maps}
-use Rattle.gas_store.specs.Views.{addr_of}
+use Rattle.gas_store.specs.Views.{addr_of, is_read_only}
 use Rattle.gas_store.specs.Effects.{IsSameScope}
 use Rattle.contract_call.specs.Calls.{Call}
 use Rattle.contract_call.specs.declared.step.Step.{Step}
@@ -41,7 +42,7 @@ invariant-finish-loop-step g l = record {
   prefix : l.call.prefix ≡ l.fn.call.prefix;
   gas : l.meter.left + l.meter.used ≡ l.fn.meter.left + l.fn.meter.used;
   spends : l.meter.left ≤ l.fn.meter.left;
-  unchanged : Turns g.B.Base.stands_for l.fn.view l.view (λ maps. maps);
+  unchanged : IsTrue (is_read_only l.fn.call.store) → Turns g.B.Base.stands_for l.fn.view l.view (λ maps. maps);
   deep : stacks.depth l.view ≡ stacks.depth l.fn.view;
 }
 

@@ -15,7 +15,7 @@ loop-tx-init g c = record {
 }
 
 pub run_under-requires : goal.run_under-requires
-run_under-requires g c = record { lawful = reach_lawful c.requires.lawful c.loop-tx.invariant.reaches }
+run_under-requires g c = record { costs = c.requires.costs; lawful = reach_lawful c.requires.lawful c.loop-tx.invariant.reaches }
 
 pub loop-tx-preserved : goal.loop-tx-preserved
 loop-tx-preserved g c =

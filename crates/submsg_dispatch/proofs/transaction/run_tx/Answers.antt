@@ -16,7 +16,7 @@ use Rattle.submsg_dispatch.proofs.transaction.run_tx.Goals as goal
 pub run_under-requires : goal.run_under-requires
 run_under-requires g c =
     let S = HasCurrent g.B.Base.stands_for c.args.layers.now in
-    record { lawful = subst (λ (p : List ℕ). HasLawfulUnder p S) (sym c.as_str-prefix.ensures.value) (under S (plain_facts c.in_ok-chain.chain) c.requires.lawful c.in_ok-chain.ensures) }
+    record { costs = c.requires.costs; lawful = subst (λ (p : List ℕ). HasLawfulUnder p S) (sym c.as_str-prefix.ensures.value) (under S (plain_facts c.in_ok-chain.chain) c.requires.lawful c.in_ok-chain.ensures) }
 
 pub returns-clause-ran : goal.returns-clause-ran
 returns-clause-ran g c =

@@ -1,7 +1,7 @@
-use Rattle.std.proofs.Common.{refl, codes, List, map, string_bytes, option_map}
+use Rattle.std.proofs.Common.{refl, List, map, string_bytes, option_map}
 use Rattle.submsg_dispatch.specs.Parts.{charge, ◌>>=◌}
 use Rattle.submsg_dispatch.specs.Messages.{store_code, pin_codes, unpin_codes}
-use Rattle.submsg_dispatch.proofs.Refusing.{tx_sort, tx_form}
+use Rattle.submsg_dispatch.proofs.Refusing.{tx_sort}
 use Rattle.submsg_dispatch.proofs.turns.handle_tx_msg.Goals as goal
 
 pub returns-in-Cosmos-clause-leads : goal.returns-in-Cosmos-clause-leads
@@ -20,5 +20,7 @@ returns-in-Unpin-clause-leads g c =
     let does = rw c.deref-in-Unpin.ensures.value at (c.unpin_paid.ensures.leads c.args.prefix.now (g.M.Modules.tally c.args.modules.now)) in
     tx_sort _ c.args.costs.now c.args.sender.now c.args.index _ _ c.in-Unpin.is refl does
 
-pub returns-clause-leads : goal.returns-clause-leads
-returns-clause-leads g c = tx_form _ _ c.args.costs.now c.args.sender.now (codes "sudo") c.args.index _ _ c.in-Sudo.is refl c.unbuilt.ensures.stop
+pub returns-in-Sudo-clause-leads : goal.returns-in-Sudo-clause-leads
+returns-in-Sudo-clause-leads g c =
+    let does = rw (c.deref-in-Sudo.ensures, c.deref-in-Sudo-2.ensures.value) at c.sudo_paid.ensures.leads in
+    tx_sort _ c.args.costs.now c.args.sender.now c.args.index _ _ c.in-Sudo.is refl does

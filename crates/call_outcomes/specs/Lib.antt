@@ -1,0 +1,4 @@
+pub mod Results
+pub mod Events
+pub mod Replies
+pub mod Views
