@@ -1,7 +1,7 @@
 #!/usr/bin/env python3
 """Runs the built programs on whole inputs, and compares what they write and their statuses with what is
 wanted: each kind of bad line, addresses in either case, limits, what fails in a transaction, queries of kept
-heights, reads and writes that fail on the way, and blocks of sends beside a plain map of balances. Run it after rt ci. It writes nothing where all is as it should be."""
+heights, reads and writes that fail on the way, the run of the example contract, and blocks of sends beside a plain map of balances. Run it after rt ci. It writes nothing where all is as it should be."""
 import base64
 import hashlib
 import json
@@ -423,6 +423,14 @@ def other_words_are_answered_with_the_usage():
         expect(f"the words {words}", words, lines(GENESIS), USAGE, lines(usage))
 
 
+def the_counter_counts():
+    """The run of the example contract is answered as it is shown."""
+    folder = os.path.join(TOP, "examples", "counter")
+    read = {name: open(os.path.join(folder, name), "rb").read() for name in ["run.jsonl", "run.out", "counter.wasm"]}
+    expect("the counter", ["serial"], read["run.jsonl"], DONE, read["run.out"])
+    expect("the counter's code", ["check"], base64.b64encode(read["counter.wasm"]) + b"\n", DONE, b'{"check":"Ok"}\n')
+
+
 def samples_are_named_by_one_word():
     usage = b"usage: sample_codes echo|spin|keeper|common|sign\n"
     codes = {name: subprocess.run([SAMPLES, name], stdout=subprocess.PIPE).stdout for name in ["echo", "spin", "keeper", "common", "sign"]}
@@ -437,6 +445,7 @@ def samples_are_named_by_one_word():
 
 
 each_line_is_answered()
+the_counter_counts()
 a_send_to_oneself_changes_nothing()
 a_bad_line_ends_the_run()
 an_address_is_read_in_either_case()
