@@ -1,4 +1,5 @@
 use crate::counting::{CountingShelf, codes};
+use crate::served::expect_served;
 use gatekeeper::{Modules, Served, ValidCode};
 use module_cache::{CacheState, Counts, Owned, Shared};
 use module_shelves::MemShelf;
@@ -56,21 +57,6 @@ fn fetches_are_served_as_by_a_plain_list(rt: HostRuntime) -> Result<(), Fail> {
     Ok(())
 }
 
-/// How these fetches are served, one after the other.
-fn expect_served<R: Abort, F: Shelf + Drop>(
-    rt: &R,
-    alloc: Global,
-    cache: &mut Owned<F>,
-    codes: &[ValidCode],
-    script: &[(usize, Served)],
-) -> Result<(), Fail> {
-    for (at, served) in script {
-        let code = codes.get(*at).ok_or("no such code")?;
-        assert_eq!(rt; cache.fetch(alloc, code)?.1, *served);
-    }
-    Ok(())
-}
-
 #[test]
 fn pins_stand_beside_the_recent_ones(rt: HostRuntime) -> Result<(), Fail> {
     let alloc = rt.alloc();
@@ -102,11 +88,53 @@ fn pins_stand_beside_the_recent_ones(rt: HostRuntime) -> Result<(), Fail> {
     Ok(())
 }
 
-/// A cache that keeps one recent module, over a shelf in memory.
-fn cache_over(alloc: Global, failing: Vec<u64>) -> Result<Owned<MemShelf>, Fail> {
+#[test]
+fn a_pinned_hit_leaves_the_recent_ones(rt: HostRuntime) -> Result<(), Fail> {
+    let alloc = rt.alloc();
+    let codes = codes(alloc, 3)?;
+    let mut cache = Owned::new(alloc, 2, NoShelf)?;
+    let before = [(0, Served::Decoded), (1, Served::Decoded)];
+    expect_served(&rt, alloc, &mut cache, &codes, &before)?;
+    cache.warm(alloc, codes.get(..1).ok_or("no code")?)?;
+    let after = [
+        (1, Served::Recent),
+        (0, Served::Pinned),
+        (2, Served::Decoded),
+        (1, Served::Recent),
+    ];
+    expect_served(&rt, alloc, &mut cache, &codes, &after)
+}
+
+#[test]
+fn the_one_recent_code_may_be_pinned_too(rt: HostRuntime) -> Result<(), Fail> {
+    let alloc = rt.alloc();
+    let codes = codes(alloc, 2)?;
+    let pins = codes.get(..1).ok_or("no code")?;
+    let mut cache = Owned::new(alloc, 1, NoShelf)?;
+    expect_served(&rt, alloc, &mut cache, &codes, &[(0, Served::Decoded)])?;
+    cache.warm(alloc, pins)?;
+    expect_served(&rt, alloc, &mut cache, &codes, &[(0, Served::Pinned)])?;
+    cache.warm(alloc, &[])?;
+    expect_served(&rt, alloc, &mut cache, &codes, &[(0, Served::Recent)])?;
+    cache.warm(alloc, pins)?;
+    let after = [
+        (1, Served::Decoded),
+        (0, Served::Pinned),
+        (1, Served::Recent),
+    ];
+    expect_served(&rt, alloc, &mut cache, &codes, &after)
+}
+
+/// A shelf in memory, whose calls of these numbers fail.
+fn placed_shelf(alloc: Global, failing: Vec<u64>) -> Result<MemShelf, Fail> {
     let mut shelf = MemShelf::new(Vec::new(alloc), failing);
     shelf.place("cache")?;
-    Ok(Owned::new(alloc, 1, shelf)?)
+    Ok(shelf)
+}
+
+/// A cache that keeps one recent module, over a shelf in memory.
+fn cache_over(alloc: Global, failing: Vec<u64>) -> Result<Owned<MemShelf>, Fail> {
+    Ok(Owned::new(alloc, 1, placed_shelf(alloc, failing)?)?)
 }
 
 #[test]
@@ -121,7 +149,9 @@ fn a_decoded_module_is_kept_as_a_file(rt: HostRuntime) -> Result<(), Fail> {
         (0, Served::Recent),
         (1, Served::File),
     ];
-    expect_served(&rt, alloc, &mut cache, &codes, &script)
+    expect_served(&rt, alloc, &mut cache, &codes, &script)?;
+    let shared = Shared::new(alloc, 1, placed_shelf(alloc, Vec::new(alloc))?)?;
+    expect_served(&rt, alloc, &mut shared.user(&rt), &codes, &script)
 }
 
 #[test]

@@ -78,3 +78,48 @@ fn codes_are_found_while_they_are_held(rt: HostRuntime) -> Result<(), Fail> {
     ];
     expect_answers(&rt, alloc, &mut core, &run)
 }
+
+/// How many codes the core keeps below.
+const KEPT: u32 = 128;
+
+/// A look at a code, which is then stowed if it's missing, beside a list of the codes that were used last.
+fn look_or_stow<R: Abort>(
+    rt: &R,
+    alloc: Global,
+    core: &mut Core,
+    list: &mut Vec<u32>,
+    code: u32,
+) -> Result<(), Fail> {
+    let answer = core.step(alloc, &looks(code))?;
+    if list.contains(&code) {
+        assert_eq!(rt; answer, CoreAnswer::Found { module: code });
+    } else {
+        assert_eq!(rt; answer, CoreAnswer::Missing);
+        assert_eq!(rt; core.step(alloc, &stows(code))?, CoreAnswer::Nothing);
+    }
+    list.retain(|other| *other != code);
+    list.insert(0, code)?;
+    list.truncate(KEPT as usize);
+    Ok(())
+}
+
+#[test]
+fn a_full_core_drops_the_code_whose_use_is_longest_ago(rt: HostRuntime) -> Result<(), Fail> {
+    let alloc = rt.alloc();
+    let mut core = Core::new(alloc, 2, KEPT, 1)?;
+    let mut list = Vec::new(alloc);
+    let mut number = 0u32;
+    for _ in 0..500 {
+        number = number.wrapping_mul(29).wrapping_add(17) % 1021;
+        look_or_stow(&rt, alloc, &mut core, &mut list, number % 140)?;
+    }
+    for code in 200..=200u32.saturating_add(KEPT) {
+        look_or_stow(&rt, alloc, &mut core, &mut list, code)?;
+    }
+    assert_eq!(rt; core.step(alloc, &looks(200))?, CoreAnswer::Missing);
+    assert_eq!(rt;
+        core.step(alloc, &looks(201))?,
+        CoreAnswer::Found { module: 201 }
+    );
+    Ok(())
+}

@@ -1,4 +1,4 @@
-//! Codes, and a shelf that counts its calls.
+//! Codes, a shelf that counts its calls, and one that has no memory for them.
 
 use gatekeeper::{ValidCode, check};
 use outside_io::{Shelf, ShelfFault};
@@ -50,5 +50,25 @@ impl Shelf for CountingShelf<'_> {
     fn put(&mut self, _name: &str, _bytes: &[u8]) -> Result<(), ShelfFault> {
         self.calls.fetch_add(1, Ordering::SeqCst);
         Ok(())
+    }
+}
+
+/// A shelf that has no memory for any call.
+#[derive(Drop)]
+pub(crate) struct FullShelf;
+
+impl Shelf for FullShelf {
+    ghost faults = { λ _. 0 };
+
+    fn place(&mut self, _folder: &str) -> Result<(), ShelfFault> {
+        Err(ShelfFault::NoMemory)
+    }
+
+    fn get(&mut self, _alloc: Global, _name: &str) -> Result<Option<Vec<u8>>, ShelfFault> {
+        Err(ShelfFault::NoMemory)
+    }
+
+    fn put(&mut self, _name: &str, _bytes: &[u8]) -> Result<(), ShelfFault> {
+        Err(ShelfFault::NoMemory)
     }
 }

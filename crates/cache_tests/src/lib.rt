@@ -8,4 +8,8 @@ mod core_run;
 #[cfg(test)]
 mod counting;
 #[cfg(test)]
+mod served;
+#[cfg(test)]
+mod sharing;
+#[cfg(test)]
 mod shelves;

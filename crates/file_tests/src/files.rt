@@ -104,6 +104,16 @@ fn samples(alloc: Global) -> Result<Vec<Filed>, Fail> {
     Ok(samples)
 }
 
+#[test]
+fn a_file_far_longer_than_its_code_is_no_file_of_it(rt: HostRuntime) -> Result<(), Fail> {
+    let alloc = rt.alloc();
+    let own = keeper_sample(alloc)?;
+    let mut longer = own.file.clone()?;
+    longer.extend_from_slice(&[0; 16384])?;
+    assert!(rt; longer.len() / 8 > own.code.bytes().len());
+    expect_none(&rt, alloc, &own, &longer, "with zeros behind it")
+}
+
 fn keeper_sample(alloc: Global) -> Result<Filed, Fail> {
     sample(alloc, write(alloc, &keeper(alloc)?)?)
 }

@@ -1,8 +1,11 @@
 -- A module is read from its file, and from no other bytes.
-use Rattle.std.proofs.Common.{◌≡◌, ℕ, ◌<◌, List, [], ◌∷◌, length, Some, None, refl, sym, ap, subst, ◌∙◌, arith, inl, inr}
+use Rattle.std.proofs.Common.{◌≡◌, ℕ, ◌<◌, List, [], ◌∷◌, length, Some, None, refl, sym, ap, subst, ◌∙◌, arith, inl, inr, Bool, true, false}
+use Rattle.std.specs.Cmp.Lexicographic.{same_text}
+use Rattle.std.specs.Str.{bytes_eq}
 use Rattle.std.proofs.lemmas.Bool.{cases_lt}
 use Rattle.std.proofs.lemmas.List.{append-nil, get_or_past}
 use Rattle.std.proofs.lemmas.List.Elements.{All-get_or}
+use Rattle.std.proofs.lemmas.Slice.Eq.{bytes_eq-Decides}
 use Rattle.wasm_types.specs.declared.limits.Limits.{Limits}
 use Rattle.wasm_types.specs.Plain.{PlainFuncType, PlainImport, PlainModule}
 use Rattle.wasm_types.specs.ModuleText.{IsModule}
@@ -101,3 +104,18 @@ module _ (bounded : SpelledAreBounded) (the : IsTheSpelled) (bytes code : List �
 
   pub some_loaded : (found : PlainModule) → AreBytes bytes → module_in bytes ≡ Some found → IsModule code found → IsLoaded bytes code (Some found)
   some_loaded found are e spelled = record { spelled = (the code found are_code).1 spelled; same = reads_only bytes found are e }
+
+-- ---- files of codes that are decoded
+
+module _ (the : IsTheSpelled) (bytes code : List ℕ) (are_code : modules.AreBytes code) where
+  pub none_decoded : ((m : PlainModule) → IsModule code m → ⊥) → IsLoaded bytes code None
+  none_decoded none m h = none m ((the code m are_code).0 h.spelled)
+
+  pub same_decoded : (found : PlainModule) (same : Bool) → IsModule code found → same ≡ bytes_eq (file_text found) bytes → same ≡ true → IsLoaded bytes code (Some found)
+  same_decoded found same spelled is holds = record { spelled = (the code found are_code).1 spelled; same = sym (same_text (file_text found) bytes (sym holds ∙ is)) }
+
+  pub other_decoded : (found : PlainModule) (same : Bool) → IsModule code found → same ≡ bytes_eq (file_text found) bytes → same ≡ false → IsLoaded bytes code None
+  other_decoded found same spelled is fails m h =
+      let one = some_is found m (sym ((the code found are_code).1 spelled) ∙ h.spelled) in
+      let equal : bytes_eq (file_text found) bytes ≡ true = (bytes_eq-Decides (file_text found) bytes).1 (ap file_text one ∙ sym h.same) in
+      absurd cc

@@ -1,4 +1,4 @@
-ghost use Rattle.std.specs.Prelude.{◌≡◌, ◌≤◌, IfErr};
+ghost use Rattle.std.specs.Prelude.{◌≡◌, ◌≤◌, [], IfErr};
 ghost use Rattle.outside_io.specs.Cause.{Rose};
 ghost use Rattle.module_shelves.specs.Shelves.{dir_faults};
 
@@ -35,15 +35,25 @@ impl<'a, R: Files + AllocGlobal + Sync> DirShelf<'a, R> {
 }
 
 impl<R: Files + AllocGlobal> DirShelf<'_, R> {
+    /// Counts a failed call.
+    fn failed(&mut self) -> ShelfFault
+        ensures rose { Rose self.old.faults self.new.faults }
+        ensures kept { self.old.faults ≤ self.new.faults }
+        ensures fault { result ≡ ShelfFault.Failed }
+    {
+        self.faults = self.faults.saturating_add(1);
+        ShelfFault::Failed
+    }
+
     /// Counts the error.
     fn fault(&mut self, error: Error) -> ShelfFault
         ensures rose { Rose self.old.faults self.new.faults }
         ensures kept { self.old.faults ≤ self.new.faults }
     {
-        self.faults = self.faults.saturating_add(1);
+        let failed = self.failed();
         match error.kind() {
             ErrorKind::OutOfMemory => ShelfFault::NoMemory,
-            _ => ShelfFault::Failed,
+            _ => failed,
         }
     }
 
@@ -84,10 +94,15 @@ fn read_file<R: Files>(rt: &R, alloc: Global, path: &str) -> io::Result<Option<V
 impl<R: Files + AllocGlobal + Sync> Shelf for DirShelf<'_, R> {
     ghost faults = { dir_faults };
 
+    /// Makes the folder where there is none. An empty text names no folder, and is a fault.
     fn place(&mut self, folder: &str) -> Result<(), ShelfFault>
         ensures kept { dir_faults self.old ≤ dir_faults self.new }
         ensures cause { result ≡ Err ShelfFault.Failed → Rose (dir_faults self.old) (dir_faults self.new) }
+        ensures named { folder.now ≡ [] → result ≡ Err ShelfFault.Failed }
     {
+        if folder.is_empty() {
+            return Err(self.failed());
+        }
         if let Err(error) = fs::create_dir_all(self.rt, folder) {
             return Err(self.fault(error));
         }

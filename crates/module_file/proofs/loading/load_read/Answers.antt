@@ -3,7 +3,7 @@ use Rattle.wasm_types.specs.Plain.{plain_module}
 use Rattle.wasm_types.specs.ModuleText.{IsModule}
 use Rattle.gatekeeper.specs.CodeBytes.{code_bytes}
 use Rattle.module_file.proofs.FileLaws.{none_unread, none_unspelled, some_loaded}
-use Rattle.module_file.proofs.loading.load.Goals as goal
+use Rattle.module_file.proofs.loading.load_read.Goals as goal
 
 pub returns-in-Err-Unreadable : goal.returns-in-Err-Unreadable
 returns-in-Err-Unreadable c =
